@@ -1,0 +1,4 @@
+pub mod DepthLemmas
+pub mod Finding
+pub mod NamesLemmas
+pub mod QueryFolds

@@ -1,0 +1,6 @@
+pub mod Dec
+pub mod Uri
+pub mod Tree
+pub mod Documents
+pub mod Operations
+pub mod Queries

@@ -1,0 +1,48 @@
+-- What a JSON tree contains.
+use Rattle.std.specs.Prelude.{ℕ, ℤ, Bool, true, ◌&&◌, not, ◌+◌, max, List, [], ◌∷◌, map, length, sum, sum_by}
+use Rattle.std.specs.List.{list_all, list_any}
+use Rattle.std.specs.Str.{bytes_eq}
+use Rattle.doc_model.specs.declared.node.Node.{Node}
+use Rattle.doc_model.specs.declared.node.Node.TheOpen.{Node-F}
+use Rattle.doc_model.specs.declared.node.Node.TheFolds.{fold-Node}
+
+-- the nodes of a tree, and the bytes of its texts and names
+abbrev pub size_step : Node-F ℕ → ℕ
+size_step (Node-F.Text text) = 1 + length text
+size_step (Node-F.Items items) = 1 + sum items
+size_step (Node-F.Members members) = 1 + sum_by (λ member. length member.0 + member.1) members
+size_step _ = 1
+
+abbrev pub size : Node → ℕ
+size = fold-Node ℕ size_step
+
+abbrev pub greatest : List ℕ → ℕ
+greatest [] = 0
+greatest (n ∷ ns) = max n (greatest ns)
+
+-- how many arrays and objects enclose each other
+abbrev pub depth_step : Node-F ℕ → ℕ
+depth_step (Node-F.Items items) = 1 + greatest items
+depth_step (Node-F.Members members) = 1 + greatest (map (λ member. member.1) members)
+depth_step _ = 0
+
+abbrev pub depth : Node → ℕ
+depth = fold-Node ℕ depth_step
+
+-- a name is one of the names
+abbrev pub is_among : List (List ℕ) → List ℕ → Bool
+is_among names name = list_any (bytes_eq name) names
+
+-- no name stands twice
+abbrev pub is_distinct : List (List ℕ) → Bool
+is_distinct [] = true
+is_distinct (name ∷ names) = not (is_among names name) && is_distinct names
+
+-- no object has two members of one name
+abbrev pub names_step : Node-F Bool → Bool
+names_step (Node-F.Items items) = list_all (λ item. item) items
+names_step (Node-F.Members members) = is_distinct (map (λ member. member.0) members) && list_all (λ member. member.1) members
+names_step _ = true
+
+abbrev pub has_distinct_names : Node → Bool
+has_distinct_names = fold-Node Bool names_step

@@ -1,0 +1,55 @@
+ghost use Rattle.std.specs.Prelude.{◌≡◌, ◌<◌, ◌+◌, MatchOption, sum_by, length};
+ghost use Rattle.doc_model.specs.Queries.{query_count};
+
+use crate::{Queries, Query};
+
+/// What is left of a budget once the queries, texts, names, values and URIs of a query are taken off.
+/// `None` says that they are more. It stops as soon as the budget is spent.
+#[cycle(count)]
+pub fn spend(query: &Query, left: u32) -> Option<u32>
+    ensures { MatchOption result (left < query_count query.now) (λ rest. rest + query_count query.now ≡ left) }
+{
+    let left = left.checked_sub(1)?;
+    match query {
+        Query::True | Query::False => Some(left),
+        Query::And(queries) => spend_all(queries, left),
+        Query::Or(queries) => spend_all(queries, left),
+        Query::Near { queries, .. } => spend_all(queries, left),
+        Query::Not(query) => spend(query.get(), left),
+        Query::AndNot { positive, negative } => {
+            let left = spend(positive.get(), left)?;
+            spend(negative.get(), left)
+        }
+        Query::Word { texts, .. } => take_off(left, texts.len()),
+        Query::PropWord { names, texts, .. } => take_off(take_off(left, names.len())?, texts.len()),
+        Query::PropValue { names, values, .. } => {
+            take_off(take_off(left, names.len())?, values.len())
+        }
+        Query::Range { names, values, .. } => {
+            take_off(take_off(left, names.len())?, values.len())
+        }
+        Query::Collection(uris) => take_off(left, uris.len()),
+        Query::Directory { uris, .. } => take_off(left, uris.len()),
+        Query::DocUri(uris) => take_off(left, uris.len()),
+    }
+}
+
+#[cycle(count)]
+fn spend_all(queries: &Queries, left: u32) -> Option<u32>
+    ensures { MatchOption result (left < sum_by query_count queries.now) (λ rest. rest + sum_by query_count queries.now ≡ left) }
+{
+    let mut rest = left;
+    for query in queries.as_slice() {
+        rest = spend(query, rest)?;
+    }
+    Some(rest)
+}
+
+fn take_off(left: u32, count: usize) -> Option<u32>
+    ensures { MatchOption result (left < count) (λ rest. rest + count ≡ left) }
+{
+    if count > left as usize {
+        return None;
+    }
+    Some(left - count as u32)
+}

@@ -1,0 +1,123 @@
+ghost use Rattle.std.specs.Prelude.{◌≡◌, ◌≤◌, ◌⊎◌, IfOk, OnOk, IfErr, MatchOption, Some, ◌<◌, ◌+◌};
+ghost use Rattle.doc_model.specs.Documents.{PlainDocument, IsDocument, broken_rule, document_size};
+
+use crate::depth::is_within;
+use crate::names::has_distinct_names;
+use crate::size::{spend, spend_texts};
+use crate::uri::{is_collections, is_uri};
+use crate::{DocRefusal, Node, Text, Texts};
+use std::alloc::{AllocError, Global};
+use std::marker::Model;
+
+/// A document: a JSON tree under a URI, in some collections. It keeps the rules that `DocRefusal` names.
+#[derive(Debug, Drop)]
+pub struct Document {
+    uri: Text,
+    collections: Texts,
+    root: Node,
+    size: u64,
+}
+
+impl Model for Document {
+    ghost use Rattle.std.specs.Prelude.{◌≡◌};
+    ghost use Rattle.doc_model.specs.Documents.{PlainDocument, document_code, IsDocument, document_size};
+
+    ghost Value = { PlainDocument };
+
+    ghost coded = { document_code };
+
+    ghost view = { λ d. record { uri = d.uri; collections = d.collections; root = d.root } };
+
+    ghost invariant = { λ d. IsDocument (record { uri = d.uri; collections = d.collections; root = d.root }) × (d.size ≡ document_size (record { uri = d.uri; collections = d.collections; root = d.root })) };
+}
+
+const MOST_DEPTH: u32 = 128;
+
+const MOST_SIZE: u64 = 16_777_216;
+
+impl Document {
+    /// A document of these parts, which are refused at the first rule that they break. It sorts nothing.
+    ///
+    /// It takes time n log n in the size of the tree, and memory for the names of one object at a time.
+    pub fn new(
+        alloc: Global,
+        uri: Text,
+        collections: Texts,
+        root: Node,
+    ) -> Result<Document, DocRefusal>
+        ensures kept { IfOk result (λ d. d ≡ record { uri = uri; collections = collections; root = root }) }
+        ensures rules { OnOk result (IsDocument (record { uri = uri; collections = collections; root = root })) }
+        ensures refused { IfErr result (λ why. (why ≡ DocRefusal.Memory) ⊎ (broken_rule (record { uri = uri; collections = collections; root = root }) ≡ Some why)) }
+    {
+        if !is_uri(uri.as_str()) {
+            return Err(DocRefusal::Uri);
+        }
+        if !is_collections(collections.as_slice()) {
+            return Err(DocRefusal::Collections);
+        }
+        if !is_within(&root, MOST_DEPTH) {
+            return Err(DocRefusal::Depth);
+        }
+        let Ok(distinct) = has_distinct_names(alloc, &root) else {
+            return Err(DocRefusal::Memory);
+        };
+        if !distinct {
+            return Err(DocRefusal::Names);
+        }
+        match spend_document(&uri, &collections, &root) {
+            Some(left) => Ok(Document {
+                uri,
+                collections,
+                root,
+                size: MOST_SIZE - left,
+            }),
+            None => Err(DocRefusal::Size),
+        }
+    }
+
+    pub fn uri(&self) -> &Text
+        ensures { result.now ≡ self.now.uri }
+    {
+        &self.uri
+    }
+
+    pub fn collections(&self) -> &Texts
+        ensures { result.now ≡ self.now.collections }
+    {
+        &self.collections
+    }
+
+    pub fn root(&self) -> &Node
+        ensures value { result.now ≡ self.now.root }
+        ensures rules { IsDocument self.now }
+    {
+        &self.root
+    }
+
+    /// The number of nodes, and the bytes of all texts, names, the URI and the collections, in constant time.
+    pub fn size(&self) -> u64
+        ensures { result ≡ document_size self.now }
+    {
+        self.size
+    }
+
+    pub fn copy(&self, alloc: Global) -> Result<Document, AllocError>
+        ensures { IfOk result (λ d. d ≡ self.now) }
+    {
+        Ok(Document {
+            uri: self.uri.copy(alloc)?,
+            collections: self.collections.copy(alloc)?,
+            root: self.root.copy(alloc)?,
+            size: self.size,
+        })
+    }
+}
+
+/// What is left of the greatest size. `None` says that the parts are larger.
+fn spend_document(uri: &Text, collections: &Texts, root: &Node) -> Option<u64>
+    ensures { MatchOption result (MOST_SIZE < document_size (record { uri = uri.now; collections = collections.now; root = root.now })) (λ left. left + document_size (record { uri = uri.now; collections = collections.now; root = root.now }) ≡ MOST_SIZE) }
+{
+    let left = MOST_SIZE.checked_sub(uri.as_str().len() as u64)?;
+    let left = spend_texts(collections.as_slice(), left)?;
+    spend(root, left)
+}

@@ -1,0 +1,37 @@
+//! Documents, operations and queries as plain data, with the rules that each keeps.
+#![tactic(auto)]
+
+mod checks;
+mod dec;
+mod depth;
+mod document;
+mod entry;
+mod indexes;
+mod names;
+mod node;
+mod op;
+mod ops;
+mod query;
+mod refusal;
+mod scalar;
+mod settings;
+mod size;
+mod text;
+mod texts;
+mod uri;
+
+pub use checks::check_query;
+pub use dec::Dec;
+pub use document::Document;
+pub use entry::Entry;
+pub use indexes::{Indexes, Kind};
+pub use node::{Members, Node, Nodes};
+pub use op::Op;
+pub use ops::Ops;
+pub use query::{Case, Compare, Queries, Query};
+pub use refusal::{DocRefusal, OpsRefusal, QueryBad};
+pub use scalar::{Scalar, Scalars};
+pub use settings::Settings;
+pub use text::Text;
+pub use texts::Texts;
+pub use uri::is_uri;

@@ -1,0 +1,98 @@
+ghost use Rattle.std.specs.Prelude.{◌≡◌, ◌+◌, ◌<◌, IfOk, OnOk, IfErr, MatchOption, Some, IsTrue, sum_by};
+ghost use Rattle.std.specs.List.{list_all};
+ghost use Rattle.doc_model.specs.Operations.{AreOps, broken_ops_rule, op_size, removes_uri};
+
+use crate::{Op, OpsRefusal};
+use sqlite_items::Items;
+use std::alloc::{AllocError, Global};
+use std::marker::Model;
+
+/// The operations of one commit: 1 to 1,000, whose documents have a size of at most 2^24 together.
+#[derive(Debug, Drop)]
+pub struct Ops {
+    list: Items<Op>,
+}
+
+impl Model for Ops {
+    ghost use Rattle.std.specs.Prelude.{List};
+    ghost use Rattle.std.specs.Coded.{coded_list};
+    ghost use Rattle.doc_model.specs.declared.op.Op.{Op};
+    ghost use Rattle.doc_model.specs.contracts.op.Op as op;
+    ghost use Rattle.doc_model.specs.Operations.{AreOps};
+
+    ghost Value = { List Op };
+
+    ghost coded = { coded_list op.the_row.coded };
+
+    ghost view = { λ o. o.list };
+
+    ghost invariant = { λ o. AreOps o.list };
+}
+
+const MOST_OPERATIONS: usize = 1000;
+
+const MOST_SIZE: u64 = 16_777_216;
+
+impl Ops {
+    /// The operations of a commit, in order. It takes no memory; its time is in proportion to their number.
+    pub fn new(list: Vec<Op>) -> Result<Ops, OpsRefusal>
+        requires { IsTrue (list_all removes_uri list.items) }
+        ensures kept { IfOk result (λ ops. ops ≡ list.items) }
+        ensures rules { OnOk result (AreOps list.items) }
+        ensures refused { IfErr result (λ why. broken_ops_rule list.items ≡ Some why) }
+    {
+        let n = list.len();
+        if n == 0 || n > MOST_OPERATIONS {
+            return Err(OpsRefusal::Count { n: n as u64 });
+        }
+        match spend_ops(&list, MOST_SIZE) {
+            Some(_) => Ok(Ops {
+                list: Items::from_vec(list),
+            }),
+            None => Err(OpsRefusal::Size),
+        }
+    }
+
+    pub fn as_slice(&self) -> &[Op]
+        ensures value { result.now ≡ self.now }
+        ensures rules { AreOps self.now }
+    {
+        self.list.as_slice()
+    }
+
+    pub fn copy(&self, alloc: Global) -> Result<Ops, AllocError>
+        ensures { IfOk result (λ o. o ≡ self.now) }
+    {
+        let list = copy_list(alloc, &self.list)?;
+        Ok(Ops { list })
+    }
+}
+
+fn size_of(op: &Op) -> u64
+    ensures { result ≡ op_size op.now }
+{
+    match op {
+        Op::Put { document, .. } => document.size(),
+        Op::Remove { .. } => 0,
+    }
+}
+
+fn spend_ops(list: &[Op], left: u64) -> Option<u64>
+    ensures { MatchOption result (left < sum_by op_size list.now) (λ rest. rest + sum_by op_size list.now ≡ left) }
+{
+    let mut rest = left;
+    for op in list {
+        rest = rest.checked_sub(size_of(op))?;
+    }
+    Some(rest)
+}
+
+fn copy_list(alloc: Global, list: &Items<Op>) -> Result<Items<Op>, AllocError>
+    ensures { IfOk result (λ o. o ≡ list.now) }
+{
+    let mut out = Items::new(alloc);
+    for op in list.as_slice() {
+        out.push(op.copy(alloc)?)?;
+    }
+    Ok(out)
+}

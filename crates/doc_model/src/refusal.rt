@@ -1,0 +1,42 @@
+use crate::{Kind, Text};
+
+/// Why a URI, collections and a tree make no document: the first rule that they break, or want of memory.
+#[derive(Clone, Copy, Debug, PartialEq, Eq)]
+pub enum DocRefusal {
+    /// The URI isn't 1 to 1,024 bytes, or has a byte below 0x21 or the byte 0x7F.
+    Uri,
+    /// There are more than 64 collections, one isn't 1 to 1,024 bytes, or they don't rise strictly by their bytes.
+    Collections,
+    /// More than 128 arrays and objects enclose each other.
+    Depth,
+    /// An object has two members of one name.
+    Names,
+    /// The nodes, and the bytes of all texts, names, the URI and the collections, are more than 2^24 together.
+    Size,
+    Memory,
+}
+
+/// Why operations make no commit: the first rule that they break.
+#[derive(Clone, Copy, Debug, PartialEq, Eq)]
+pub enum OpsRefusal {
+    /// There are none, or more than 1,000.
+    Count { n: u64 },
+    /// The sizes of the documents are more than 2^24 together.
+    Size,
+}
+
+/// Why a query isn't answered: the first rule that it breaks, or want of memory.
+#[derive(Debug, Drop)]
+pub enum QueryBad {
+    /// More than `limit` queries lie within each other.
+    TooDeep { limit: u32 },
+    /// The queries, texts, names, values and URIs are more than `limit` together.
+    TooMany { limit: u32 },
+    /// The URI of a directory doesn't end with a slash.
+    BadDirectory,
+    /// A child of a near query is neither a word query nor an or-query of such.
+    NearChild,
+    /// A range query compares a property with a value for which there is no index.
+    NoRange { name: Text, kind: Kind },
+    Memory,
+}

@@ -1,0 +1,54 @@
+ghost use Rattle.std.specs.Prelude.{◌≡◌, ◌+◌, ◌<◌, MatchOption, sum_by, length};
+ghost use Rattle.doc_model.specs.Tree.{size};
+
+use crate::{Members, Node, Nodes, Text};
+
+/// What is left of a budget once the size of a tree is taken off. `None` says that the tree is larger.
+///
+/// It stops as soon as the budget is spent.
+#[cycle(spend)]
+pub fn spend(node: &Node, left: u64) -> Option<u64>
+    ensures { MatchOption result (left < size node.now) (λ rest. rest + size node.now ≡ left) }
+{
+    let left = left.checked_sub(1)?;
+    match node {
+        Node::Null | Node::Bool(_) | Node::Num(_) => Some(left),
+        Node::Text(t) => left.checked_sub(t.as_str().len() as u64),
+        Node::Items(items) => spend_items(items, left),
+        Node::Members(members) => spend_members(members, left),
+    }
+}
+
+#[cycle(spend)]
+fn spend_items(items: &Nodes, left: u64) -> Option<u64>
+    ensures { MatchOption result (left < sum_by size items.now) (λ rest. rest + sum_by size items.now ≡ left) }
+{
+    let mut rest = left;
+    for item in items.as_slice() {
+        rest = spend(item, rest)?;
+    }
+    Some(rest)
+}
+
+#[cycle(spend)]
+fn spend_members(members: &Members, left: u64) -> Option<u64>
+    ensures { MatchOption result (left < sum_by (λ m. length m.0 + size m.1) members.now) (λ rest. rest + sum_by (λ m. length m.0 + size m.1) members.now ≡ left) }
+{
+    let mut rest = left;
+    for member in members.as_slice() {
+        rest = rest.checked_sub(member.0.as_str().len() as u64)?;
+        rest = spend(&member.1, rest)?;
+    }
+    Some(rest)
+}
+
+/// The same for the bytes of texts.
+pub fn spend_texts(texts: &[Text], left: u64) -> Option<u64>
+    ensures { MatchOption result (left < sum_by length texts.now) (λ rest. rest + sum_by length texts.now ≡ left) }
+{
+    let mut rest = left;
+    for text in texts {
+        rest = rest.checked_sub(text.as_str().len() as u64)?;
+    }
+    Some(rest)
+}
