@@ -1,0 +1,76 @@
+-- Laws that the definitions keep.
+use Rattle.std.specs.Prelude.{ℕ, ◌≡◌, ◌+◌, ◌≤◌, ◌↔◌, IsTrue, Bool, false, List, [], ◌∷◌, ◌++◌, All, IsUtf8, map, Option, Some, None, slice_get}
+use Rattle.std.specs.FinMap.{get}
+use Rattle.std.specs.List.Sorted.{IsStrictlySortedBy}
+use Rattle.std.specs.Cmp.Lexicographic.{slice_cmp}
+use Rattle.std.specs.Ordering.{nat_cmp}
+use Rattle.doc_model.specs.Documents.{PlainDocument}
+use Rattle.doc_model.specs.Operations.{uri_of}
+use Rattle.doc_model.specs.Tree.{is_among, is_distinct}
+use Rattle.doc_model.specs.declared.entry.Entry.{Entry}
+use Rattle.doc_model.specs.declared.entry.Entry.TheVariants.{Commit}
+use Rattle.doc_model.specs.declared.op.Op.{Op}
+use Rattle.doc_model.specs.declared.op.Op.TheVariants.{Put, Remove}
+use Rattle.doc_model.specs.declared.query.Query.{Query}
+use Rattle.doc_model.specs.declared.query.Query.TheVariants.{And, Near}
+use Rattle.doc_meaning.specs.Answers.{answer}
+use Rattle.doc_meaning.specs.History.{History, first, front, merge, latest, database_at, shown, base_at}
+use Rattle.doc_meaning.specs.Meaning.{sat}
+use Rattle.doc_meaning.specs.Near.{is_near, IsNear}
+use Rattle.doc_meaning.specs.Runs.{AreMaximalRuns}
+use Rattle.doc_meaning.specs.Words.{words}
+
+-- the words of a text are exactly its maximal runs of word characters
+abbrev pub WordsAreMaximalRuns : Type 0
+WordsAreMaximalRuns = (text : List ℕ) → IsUtf8 text → AreMaximalRuns text (words text)
+
+-- the answer is in the order of the bytes of its URIs, and has none twice
+abbrev pub AnswersAreSorted : Type 0
+AnswersAreSorted = (h : History) (at : ℕ) (q : Query) → IsStrictlySortedBy (slice_cmp nat_cmp) (answer h at q)
+
+-- further entries change no earlier database
+abbrev pub LaterEntriesChangeNothing : Type 0
+LaterEntriesChangeNothing = (h : History) (more : List Entry) (at : ℕ) → at ≤ front h →
+    database_at (record h { entries = h.entries ++ more }) at ≡ database_at h at
+
+-- a document that satisfies and-queries satisfies each child
+abbrev pub AndSatisfiesEach : Type 0
+AndSatisfiesEach = (queries : List Query) (d : PlainDocument) → IsTrue (sat (And queries) d) ↔ All (λ q. IsTrue (sat q d)) queries
+
+-- near is a choice of one start per child
+abbrev pub NearIsAChoice : Type 0
+NearIsAChoice = (distance : ℕ) (ordered : Bool) (children : List (List ℕ)) → IsTrue (is_near distance ordered children) ↔ IsNear distance ordered children
+
+-- near holds with every greater distance
+abbrev pub NearHoldsFurther : Type 0
+NearHoldsFurther = (queries : List Query) (distance further : ℕ) (ordered : Bool) (d : PlainDocument) → distance ≤ further →
+    IsTrue (sat (Near queries distance ordered) d) → IsTrue (sat (Near queries further ordered) d)
+
+-- the history with one more commit
+abbrev pub with_commit : History → List Op → History
+with_commit h ops = record h { entries = h.entries ++ Commit ops ∷ [] }
+
+-- what a commit of distinct URIs puts is live at the new front, under the new timestamp
+abbrev pub PutIsLive : Type 0
+PutIsLive = (h : History) (ops : List Op) (k : ℕ) (document : PlainDocument) (expect : Option ℕ) →
+    IsTrue (is_distinct (map uri_of ops)) → slice_get ops k ≡ Some (Put document expect) →
+    get (latest (with_commit h ops)) document.uri ≡ Some (record { document = document; created = front h + 1 })
+
+-- what a commit of distinct URIs removes is gone at the new front
+abbrev pub RemovedIsGone : Type 0
+RemovedIsGone = (h : History) (ops : List Op) (k : ℕ) (uri : List ℕ) (expect : Option ℕ) →
+    IsTrue (is_distinct (map uri_of ops)) → slice_get ops k ≡ Some (Remove uri expect) →
+    get (latest (with_commit h ops)) uri ≡ None
+
+-- a URI that a commit doesn't name stays as it was
+abbrev pub OthersStay : Type 0
+OthersStay = (h : History) (ops : List Op) (uri : List ℕ) → is_among (map uri_of ops) uri ≡ false →
+    get (latest (with_commit h ops)) uri ≡ get (latest h) uri
+
+-- what is shown of a history has its databases from the merge timestamp to the front
+abbrev pub ShownIsTheSame : Type 0
+ShownIsTheSame = (h : History) (at : ℕ) → merge h ≤ at → at ≤ front h → base_at (shown h) at ≡ database_at h at
+
+-- the first entries have the same databases up to there
+abbrev pub FirstIsTheSame : Type 0
+FirstIsTheSame = (h : History) (to at : ℕ) → at ≤ to → database_at (first h to) at ≡ database_at h at

@@ -1,0 +1,11 @@
+pub mod Answers
+pub mod Estimates
+pub mod History
+pub mod Laws
+pub mod Meaning
+pub mod Near
+pub mod Replies
+pub mod Runs
+pub mod Strings
+pub mod Values
+pub mod Words

@@ -1,0 +1,15 @@
+//! What words, queries and histories mean. The definitions stand in specs/; here are the types that code and
+//! definitions share, and the laws of the definitions.
+#![tactic(auto)]
+
+mod bounds;
+mod meaning;
+mod replies;
+mod string_node;
+mod version;
+
+pub use bounds::Bounds;
+pub use meaning::Meaning;
+pub use replies::{CommitReply, ForgetReply, LookReply, ReadReply};
+pub use string_node::StringNode;
+pub use version::Version;

@@ -1,0 +1,11 @@
+use doc_model::Text;
+
+/// A text value of a tree.
+#[derive(Debug, Drop)]
+pub struct StringNode {
+    /// The name of the member whose value holds the text through arrays alone.
+    pub owner: Option<Text>,
+    pub text: Text,
+    /// How many words the text values before it have.
+    pub base: u64,
+}
