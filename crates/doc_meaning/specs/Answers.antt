@@ -19,6 +19,7 @@ answer_in db q = matching (entries db) q
 abbrev pub answer : History → ℕ → Query → List (List ℕ)
 answer h at q = answer_in (database_at h at) q
 
+-- how many documents of a database pass the wider test of a query
 abbrev pub estimate_in : Database → Query → ℕ
 estimate_in db q = length (filter (λ e. maybe q e.1.document) (entries db))
 

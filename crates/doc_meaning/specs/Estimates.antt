@@ -1,5 +1,5 @@
--- Two tests of a query by single words, pairs of words and whole values: one that only documents which satisfy it
--- pass, and one that all which satisfy it pass.
+-- Two tests of a query by single words, pairs of words and whole values, as an index knows them. Of a query that keeps
+-- its rules, only documents that satisfy it pass the one, and all that satisfy it pass the other.
 use Rattle.std.specs.Prelude.{ℕ, Bool, true, false, ◌&&◌, not, List, [], ◌∷◌, map, filter, Option, None, Some}
 use Rattle.std.specs.List.{list_any, list_all}
 use Rattle.doc_model.specs.Documents.{PlainDocument}
@@ -12,13 +12,15 @@ use Rattle.doc_meaning.specs.declared.string_node.StringNode.{StringNode}
 use Rattle.doc_meaning.specs.Meaning.{is_nonempty, leaf_holds}
 use Rattle.doc_meaning.specs.Strings.{strings, is_owned, is_blind, words_seen, places}
 
+-- both tests agree
 abbrev pub exactly : Bool → Bounds
 exactly b = record { sure = b; maybe = b }
 
+-- a test that some documents may pass which don't satisfy the query
 abbrev pub only_maybe : Bool → Bounds
 only_maybe b = record { sure = false; maybe = b }
 
--- some bounds hold
+-- what holds of some of several
 abbrev pub any_bound : List Bounds → Bounds
 any_bound all = record { sure = list_any (λ b. b.sure) all; maybe = list_any (λ b. b.maybe) all }
 
@@ -43,6 +45,7 @@ word_bounds found blind (w ∷ []) = exactly (stand found blind (w ∷ []))
 word_bounds found blind (v ∷ w ∷ []) = exactly (stand found blind (v ∷ w ∷ []))
 word_bounds found blind ws = only_maybe (neighbours_stand found blind ws)
 
+-- a text anywhere in a document
 abbrev pub text_bounds : List StringNode → Case → List ℕ → Bounds
 text_bounds found case text = let blind = is_blind case text in word_bounds found blind (words_seen blind text)
 
@@ -52,6 +55,7 @@ prop_word_bounds found owned blind [] = exactly false
 prop_word_bounds found owned blind (w ∷ []) = exactly (stand owned blind (w ∷ []))
 prop_word_bounds found owned blind ws = only_maybe (each_stands owned blind ws && neighbours_stand found blind ws)
 
+-- a text in one property
 abbrev pub prop_text_bounds : List StringNode → Case → List ℕ → List ℕ → Bounds
 prop_text_bounds found case text name =
     let blind = is_blind case text in
@@ -64,6 +68,7 @@ near_bounds (child ∷ []) = child
 near_bounds children = only_maybe (list_all (λ b. b.maybe) children)
 
 module _ (d : PlainDocument) where
+  -- the tests of a query from those of its children
   abbrev pub bounds_step : Query-F Bounds → Bounds
   bounds_step (Query-F.And queries) = record { sure = list_all (λ b. b.sure) queries; maybe = list_all (λ b. b.maybe) queries }
   bounds_step (Query-F.Or queries) = any_bound queries
@@ -75,13 +80,14 @@ module _ (d : PlainDocument) where
   bounds_step (Query-F.Near queries distance ordered) = near_bounds queries
   bounds_step q = exactly (leaf_holds d q)
 
+  -- both tests of a query
   abbrev pub bounds : Query → Bounds
   bounds = fold-Query Bounds bounds_step
 
--- only documents that satisfy the query pass
+-- of a query that keeps its rules, only documents that satisfy it pass
 abbrev pub sure : Query → PlainDocument → Bool
 sure q d = (bounds d q).sure
 
--- each document that satisfies the query passes
+-- of a query that keeps its rules, each document that satisfies it passes
 abbrev pub maybe : Query → PlainDocument → Bool
 maybe q d = (bounds d q).maybe

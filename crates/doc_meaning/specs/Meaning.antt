@@ -20,9 +20,9 @@ use Rattle.doc_meaning.specs.Values.{scalar_equals, in_range}
 abbrev pub some_pair : (Scalar → Scalar → Bool) → List Scalar → List Scalar → Bool
 some_pair test found wanted = list_any (λ v. list_any (λ g. test v g) wanted) found
 
--- some name is one of the names
-abbrev pub share_name : List (List ℕ) → List (List ℕ) → Bool
-share_name names wanted = list_any (λ name. is_among names name) wanted
+-- the two lists have a name in common
+abbrev pub have_common : List (List ℕ) → List (List ℕ) → Bool
+have_common names wanted = list_any (λ name. is_among names name) wanted
 
 -- what follows the directory isn't empty, and has no slash unless any depth will do
 abbrev pub is_inside : Bool → List ℕ → Bool
@@ -37,6 +37,7 @@ in_directory infinite uri directory = starts_with nat_eq uri directory && is_ins
 abbrev pub plainly : Bool → Meaning
 plainly b = record { holds = b; starts = [] }
 
+-- there is one
 abbrev pub is_nonempty : List ℕ → Bool
 is_nonempty [] = false
 is_nonempty (n ∷ ns) = true
@@ -53,9 +54,10 @@ module _ (d : PlainDocument) where
   -- whether a query without starts and without children holds
   abbrev pub leaf_holds : {X : Type 0} → Query-F X → Bool
   leaf_holds Query-F.True = true
+  leaf_holds Query-F.False = false
   leaf_holds (Query-F.PropValue names values case exact) = some_pair (scalar_equals case exact) (scalars_of names d.root) values
   leaf_holds (Query-F.Range names op values) = some_pair (in_range op) (scalars_of names d.root) values
-  leaf_holds (Query-F.Collection names) = share_name d.collections names
+  leaf_holds (Query-F.Collection names) = have_common d.collections names
   leaf_holds (Query-F.Directory uris infinite) = list_any (in_directory infinite d.uri) uris
   leaf_holds (Query-F.DocUri uris) = is_among uris d.uri
   leaf_holds _ = false
@@ -71,6 +73,7 @@ module _ (d : PlainDocument) where
   meaning_step (Query-F.Near queries distance ordered) = plainly (is_near distance ordered (map (λ q. q.starts) queries))
   meaning_step q = plainly (leaf_holds q)
 
+  -- whether a query holds of the document, and where it starts
   abbrev pub meaning : Query → Meaning
   meaning = fold-Query Meaning meaning_step
 

@@ -7,6 +7,7 @@ abbrev pub choices : List (List ℕ) → List (List ℕ)
 choices [] = [] ∷ []
 choices (ns ∷ rest) = flat_map (λ n. map (λ chosen. n ∷ chosen) (choices rest)) ns
 
+-- each number is less than the next
 abbrev pub is_rising : List ℕ → Bool
 is_rising [] = true
 is_rising (n ∷ []) = true

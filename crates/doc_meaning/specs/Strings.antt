@@ -1,4 +1,4 @@
--- The scalars and the strings of a tree, and where a query text starts among them.
+-- The scalars and the strings of a JSON tree (RFC 8259, section 3), and where a query text starts among them.
 use Rattle.std.specs.Prelude.{ℕ, ◌+◌, Bool, true, false, not, List, [], ◌∷◌, map, flat_map, filter, length, drop, Option, Some, None, if◌then◌else◌}
 use Rattle.std.specs.List.{filter_map, range_with_len, starts_with}
 use Rattle.std.specs.Str.{bytes_eq}
@@ -26,6 +26,7 @@ scalars_step (Node-F.Text t) owner = (owner, scalar.Text t) ∷ []
 scalars_step (Node-F.Items items) owner = flat_map (λ item. item owner) items
 scalars_step (Node-F.Members members) owner = flat_map (λ member. member.1 (Some member.0)) members
 
+-- the scalars of a node that has this owner
 abbrev pub scalars_under : Node → Owner → List (Owner × Scalar)
 scalars_under = fold-Node (Owner → List (Owner × Scalar)) scalars_step
 
@@ -43,6 +44,7 @@ is_owned (Some names) (Some name) = is_among names name
 abbrev pub scalars_of : List (List ℕ) → Node → List Scalar
 scalars_of names root = map (λ s. s.1) (filter (λ s. is_owned (Some names) s.0) (scalars root))
 
+-- a scalar that is a text
 abbrev pub text_of : Owner × Scalar → Option (Owner × List ℕ)
 text_of (owner, scalar.Text t) = Some (owner, t)
 text_of (owner, _) = None

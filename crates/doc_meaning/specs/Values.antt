@@ -12,6 +12,7 @@ use Rattle.doc_model.specs.declared.scalar.Scalar.{Scalar}
 use Rattle.doc_model.specs.declared.scalar.Scalar.TheVariants as scalar
 use Rattle.doc_meaning.specs.Strings.{is_blind, words_seen}
 
+-- both true or both false
 abbrev pub bool_eq : Bool → Bool → Bool
 bool_eq true b = b
 bool_eq false b = not b
@@ -36,6 +37,7 @@ scalar_order (scalar.Num a) (scalar.Num b) = Some (int_cmp a b)
 scalar_order (scalar.Text a) (scalar.Text b) = Some (slice_cmp nat_cmp a b)
 scalar_order _ _ = None
 
+-- what an operator asks of the order
 abbrev pub order_holds : Compare → Ordering → Bool
 order_holds Lt order = is_lt order
 order_holds Le order = not (is_gt order)

@@ -1,4 +1,4 @@
--- The words of a text, by the tables of Unicode.
+-- The words of a text (Unicode: General_Category of section 4.5, default case folding of section 3.13).
 use Rattle.std.specs.Prelude.{ℕ, ◌+◌, Bool, true, false, ◌||◌, ◌==◌, List, [], ◌∷◌, map, slice_range, chars, encode_utf8_all, if◌then◌else◌}
 use Rattle.std.specs.Char.{len_utf8}
 use Rattle.std.specs.List.{list_any}
@@ -13,6 +13,7 @@ use Rattle.caseless.specs.Caseless.{default_case_fold}
 abbrev pub is_word_category : GeneralCategory → Bool
 is_word_category value = in_group Letter value || in_group Mark value || in_group Number value
 
+-- words are made of it
 unfoldable pub is_word_char : ℕ → Bool
 is_word_char c = is_word_category (general_category c)
 

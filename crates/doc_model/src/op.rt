@@ -1,5 +1,5 @@
 ghost use Rattle.std.specs.Prelude.{◌≡◌, IfOk};
-ghost use Rattle.doc_model.specs.Operations.{uri_of};
+ghost use Rattle.doc_model.specs.Operations.{uri_of, expect_of};
 
 use crate::{Document, Text};
 use std::alloc::{AllocError, Global};
@@ -26,6 +26,16 @@ impl Op {
         match self {
             Op::Put { document, .. } => document.uri(),
             Op::Remove { uri, .. } => uri,
+        }
+    }
+
+    /// The timestamp that the live version must have been created at, if one is asked for.
+    pub fn expect(&self) -> Option<u64>
+        ensures { result ≡ expect_of self.now }
+    {
+        match self {
+            Op::Put { expect, .. } => *expect,
+            Op::Remove { expect, .. } => *expect,
         }
     }
 

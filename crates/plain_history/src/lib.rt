@@ -1,0 +1,12 @@
+//! A history as a plain list of entries, and what it is asked, computed by the definitions: slow and obvious.
+//! Tests compare every faster body with it.
+#![tactic(auto)]
+
+mod commits;
+mod database;
+mod forgets;
+mod history;
+mod reads;
+
+pub use database::Database;
+pub use history::History;
