@@ -1,6 +1,6 @@
 -- Two tests of a query by single words, pairs of words and whole values: one that only documents which satisfy it
 -- pass, and one that all which satisfy it pass.
-use Rattle.std.specs.Prelude.{ℕ, Bool, true, false, ◌&&◌, not, List, [], ◌∷◌, map, filter, Option, None, Some}
+use Rattle.std.specs.Prelude.{ℕ, Bool, true, false, ◌&&◌, not, List, [], ◌∷◌, map, filter, Some}
 use Rattle.std.specs.List.{list_any, list_all}
 use Rattle.doc_model.specs.Documents.{PlainDocument}
 use Rattle.doc_model.specs.declared.query.Case.{Case}
