@@ -1,3 +1,5 @@
 pub mod CommitLemmas
 pub mod HistoryLemmas
+pub mod MeaningLemmas
+pub mod NearLemmas
 pub mod SortedLemmas

@@ -1,8 +1,23 @@
-ghost use Rattle.doc_meaning.specs.Laws.{AnswersAreSorted, FirstIsTheSame, LaterEntriesChangeNothing, OthersStay, PutIsLive, RemovedIsGone, ShownIsTheSame};
+ghost use Rattle.doc_meaning.specs.Laws.{AndSatisfiesEach, AnswersAreSorted, FirstIsTheSame, LaterEntriesChangeNothing, NearHoldsFurther, NearIsAChoice, OthersStay, PutIsLive, RemovedIsGone, ShownIsTheSame};
 
 /// An answer is in the order of the bytes of its URIs, and has none twice.
 pub fn answers_are_sorted()
     ensures { AnswersAreSorted }
+{}
+
+/// A document that satisfies and-queries satisfies each child.
+pub fn and_satisfies_each()
+    ensures { AndSatisfiesEach }
+{}
+
+/// Near is a choice of one start per child.
+pub fn near_is_a_choice()
+    ensures { NearIsAChoice }
+{}
+
+/// Near holds with every greater distance.
+pub fn near_holds_further()
+    ensures { NearHoldsFurther }
 {}
 
 /// Further entries change no earlier database.
