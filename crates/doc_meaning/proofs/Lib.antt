@@ -3,3 +3,4 @@ pub mod HistoryLemmas
 pub mod MeaningLemmas
 pub mod NearLemmas
 pub mod SortedLemmas
+pub mod WordsLemmas

@@ -1,4 +1,9 @@
-ghost use Rattle.doc_meaning.specs.Laws.{AndSatisfiesEach, AnswersAreSorted, FirstIsTheSame, LaterEntriesChangeNothing, NearHoldsFurther, NearIsAChoice, OthersStay, PutIsLive, RemovedIsGone, ShownIsTheSame};
+ghost use Rattle.doc_meaning.specs.Laws.{AndSatisfiesEach, AnswersAreSorted, FirstIsTheSame, LaterEntriesChangeNothing, NearHoldsFurther, NearIsAChoice, OthersStay, PutIsLive, RemovedIsGone, ShownIsTheSame, WordsAreMaximalRuns};
+
+/// The words of a text are exactly its maximal runs of word characters.
+pub fn words_are_maximal_runs()
+    ensures { WordsAreMaximalRuns }
+{}
 
 /// An answer is in the order of the bytes of its URIs, and has none twice.
 pub fn answers_are_sorted()
