@@ -1,6 +1,6 @@
 -- Two tests of a query by single words, pairs of words and whole values, as an index knows them. Of a query that keeps
 -- its rules, only documents that satisfy it pass the one, and all that satisfy it pass the other.
-use Rattle.std.specs.Prelude.{ℕ, Bool, true, false, ◌&&◌, not, List, [], ◌∷◌, map, filter, Option, None, Some}
+use Rattle.std.specs.Prelude.{ℕ, Bool, true, false, ◌&&◌, not, List, [], ◌∷◌, map, filter, Some}
 use Rattle.std.specs.List.{list_any, list_all}
 use Rattle.doc_model.specs.Documents.{PlainDocument}
 use Rattle.doc_model.specs.declared.query.Case.{Case}

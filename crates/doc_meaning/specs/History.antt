@@ -1,11 +1,9 @@
 -- Histories, and the database at each of their timestamps.
-use Rattle.std.specs.Prelude.{ℕ, ◌≡◌, ◌+◌, ◌-◌, ◌≤◌, ◌<◌, ◌⊎◌, nat_le, IsTrue, List, [], ◌∷◌, map, take, length, slice_get, slice_index_or, Option, Some, None, if◌then◌else◌}
+use Rattle.std.specs.Prelude.{ℕ, ◌≡◌, ◌+◌, ◌-◌, ◌≤◌, ◌⊎◌, nat_le, IsTrue, List, [], ◌∷◌, map, take, length, slice_get, slice_index_or, Option, Some, if◌then◌else◌}
 use Rattle.std.specs.Cmp.Lexicographic.{slice_cmp}
 use Rattle.std.specs.FinMap.{FinMap, empty, insert, remove, get}
 use Rattle.std.specs.List.{range_with_len}
-use Rattle.std.specs.Option.{option_map_or}
 use Rattle.std.specs.Ordering.{nat_cmp}
-use Rattle.doc_model.specs.Documents.{PlainDocument}
 use Rattle.doc_model.specs.Operations.{uri_of, AreOps}
 use Rattle.doc_model.specs.Queries.{Index}
 use Rattle.doc_model.specs.Tree.{is_distinct}

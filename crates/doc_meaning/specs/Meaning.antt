@@ -5,7 +5,6 @@ use Rattle.std.specs.Prelude.{nat_eq}
 use Rattle.doc_model.specs.Documents.{PlainDocument}
 use Rattle.doc_model.specs.Tree.{is_among}
 use Rattle.doc_model.specs.declared.query.Case.{Case}
-use Rattle.doc_model.specs.declared.query.Compare.{Compare}
 use Rattle.doc_model.specs.declared.query.Query.{Query}
 use Rattle.doc_model.specs.declared.query.Query.TheOpen.{Query-F}
 use Rattle.doc_model.specs.declared.query.Query.TheFolds.{fold-Query}

@@ -1,5 +1,5 @@
 -- Words that stand close to each other.
-use Rattle.std.specs.Prelude.{ℕ, ◌≡◌, ◌+◌, ◌<◌, ◌≤◌, Bool, true, ◌||◌, ◌&&◌, not, nat_lt, nat_le, List, [], ◌∷◌, map, flat_map, Contains, All}
+use Rattle.std.specs.Prelude.{ℕ, ◌≡◌, ◌+◌, ◌≤◌, Bool, true, ◌||◌, ◌&&◌, not, nat_lt, nat_le, List, [], ◌∷◌, map, flat_map, Contains, All}
 use Rattle.std.specs.List.{list_any, list_all}
 
 -- one number of each list, in all ways

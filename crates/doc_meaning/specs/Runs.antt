@@ -1,5 +1,5 @@
 -- What it is for spans to be the maximal runs of word characters of a text.
-use Rattle.std.specs.Prelude.{ℕ, ◌≡◌, ◌<◌, ◌≤◌, ◌+◌, ◌↔◌, ◌⊎◌, true, List, ◌∷◌, ◌++◌, length, All, Any, chars, encode_utf8_all}
+use Rattle.std.specs.Prelude.{ℕ, ◌≡◌, ◌<◌, ◌≤◌, ◌↔◌, ◌⊎◌, true, List, ◌∷◌, ◌++◌, length, All, Any, chars, encode_utf8_all}
 use Rattle.std.specs.List.{AllAdjacentBelow}
 use Rattle.doc_meaning.specs.Words.{Span, is_word_char}
 

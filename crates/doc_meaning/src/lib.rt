@@ -3,12 +3,18 @@
 #![tactic(auto)]
 
 mod bounds;
+mod laws;
 mod meaning;
 mod replies;
 mod string_node;
 mod version;
 
 pub use bounds::Bounds;
+pub use laws::{
+    and_satisfies_each, answers_are_sorted, first_is_the_same, later_entries_change_nothing,
+    near_holds_further, near_is_a_choice, others_stay, put_is_live, removed_is_gone,
+    shown_is_the_same, words_are_maximal_runs,
+};
 pub use meaning::Meaning;
 pub use replies::{CommitReply, ForgetReply, LookReply, ReadReply};
 pub use string_node::StringNode;

@@ -1,0 +1,5 @@
+use Rattle.doc_meaning.proofs.HistoryLemmas.{shown_is_the_same}
+use Rattle.doc_meaning.proofs.laws.shown_is_the_same.Goals as goal
+
+pub returns : goal.returns
+returns c = shown_is_the_same

@@ -1,0 +1,56 @@
+ghost use Rattle.doc_meaning.specs.Laws.{AndSatisfiesEach, AnswersAreSorted, FirstIsTheSame, LaterEntriesChangeNothing, NearHoldsFurther, NearIsAChoice, OthersStay, PutIsLive, RemovedIsGone, ShownIsTheSame, WordsAreMaximalRuns};
+
+/// The words of a text are exactly its maximal runs of word characters.
+pub fn words_are_maximal_runs()
+    ensures { WordsAreMaximalRuns }
+{}
+
+/// An answer is in the order of the bytes of its URIs, and has none twice.
+pub fn answers_are_sorted()
+    ensures { AnswersAreSorted }
+{}
+
+/// A document that satisfies and-queries satisfies each child.
+pub fn and_satisfies_each()
+    ensures { AndSatisfiesEach }
+{}
+
+/// Near is a choice of one start per child.
+pub fn near_is_a_choice()
+    ensures { NearIsAChoice }
+{}
+
+/// Near holds with every greater distance.
+pub fn near_holds_further()
+    ensures { NearHoldsFurther }
+{}
+
+/// Further entries change no earlier database.
+pub fn later_entries_change_nothing()
+    ensures { LaterEntriesChangeNothing }
+{}
+
+/// What a commit of distinct URIs puts is live at the new front, under the new timestamp.
+pub fn put_is_live()
+    ensures { PutIsLive }
+{}
+
+/// What a commit of distinct URIs removes is gone at the new front.
+pub fn removed_is_gone()
+    ensures { RemovedIsGone }
+{}
+
+/// A URI that a commit doesn't name stays as it was.
+pub fn others_stay()
+    ensures { OthersStay }
+{}
+
+/// What is shown of a history has its databases from the merge timestamp to the front.
+pub fn shown_is_the_same()
+    ensures { ShownIsTheSame }
+{}
+
+/// The first entries have the same databases up to there.
+pub fn first_is_the_same()
+    ensures { FirstIsTheSame }
+{}
