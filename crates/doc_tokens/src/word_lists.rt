@@ -1,0 +1,32 @@
+ghost use Rattle.std.specs.Prelude.{◌≡◌, IfOk};
+ghost use Rattle.doc_meaning.specs.Words.{plain, folded};
+
+use crate::{fold, words};
+use doc_model::{Text, Texts};
+use std::alloc::{AllocError, Global};
+
+/// The words of a text as they are written, in order.
+#[tactic(auto, unfolding(doc_meaning::specs::Words::plain))]
+pub fn plain_words(alloc: Global, text: &str) -> Result<Texts, AllocError>
+    ensures { IfOk result (λ ws. ws ≡ plain text.now) }
+{
+    let spans = words(alloc, text)?;
+    let mut out = Texts::new(alloc);
+    for span in &spans {
+        out.push(Text::from_str(alloc, &text[span.0..span.1])?)?;
+    }
+    Ok(out)
+}
+
+/// The words of a text case folded, in order.
+#[tactic(auto, unfolding(doc_meaning::specs::Words::folded))]
+pub fn folded_words(alloc: Global, text: &str) -> Result<Texts, AllocError>
+    ensures { IfOk result (λ ws. ws ≡ folded text.now) }
+{
+    let plain = plain_words(alloc, text)?;
+    let mut out = Texts::new(alloc);
+    for word in plain.as_slice() {
+        out.push(fold(alloc, word.as_str())?)?;
+    }
+    Ok(out)
+}
