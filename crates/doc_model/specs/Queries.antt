@@ -73,7 +73,7 @@ query_count = fold-Query ℕ count_step
 
 -- the last byte is a slash
 abbrev pub ends_with_slash : List ℕ → Bool
-ends_with_slash uri = slice_index uri (length uri - 1) == 0x2F
+ends_with_slash uri = nat_lt 0 (length uri) && (slice_index uri (length uri - 1) == 0x2F)
 
 -- the URIs of directories in a query itself
 abbrev pub own_directories : {X : Type 0} → Query-F X → List (List ℕ)

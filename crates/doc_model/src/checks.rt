@@ -23,7 +23,8 @@ const MOST_PARTS: u32 = 10_000;
 /// is answered. Null and booleans in a range query want no index.
 ///
 /// It looks no deeper than 32 queries and at no more than 10,000 parts before the last three rules, and takes
-/// memory for the name of a missing index alone.
+/// memory for the name of a missing index alone. The last rule takes the time of each name with each value of a
+/// range query.
 pub fn check_query(alloc: Global, query: &Query, indexes: &Indexes) -> Result<(), QueryBad>
     ensures ok { OnOk result (broken_query_rule query.now indexes.now ≡ None) }
     ensures refused { IfErr result (λ why. (why ≡ QueryBad.Memory) ⊎ (broken_query_rule query.now indexes.now ≡ Some why)) }

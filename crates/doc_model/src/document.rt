@@ -38,7 +38,8 @@ const MOST_SIZE: u64 = 16_777_216;
 impl Document {
     /// A document of these parts, which are refused at the first rule that they break. It sorts nothing.
     ///
-    /// It takes time n log n in the size of the tree, and memory for the names of one object at a time.
+    /// It looks no deeper than 128 arrays and objects. It takes time n log n in the size of the tree, and memory
+    /// for the names of one object at a time.
     pub fn new(
         alloc: Global,
         uri: Text,
@@ -75,18 +76,21 @@ impl Document {
         }
     }
 
+    /// The URI, of 1 to 1,024 bytes.
     pub fn uri(&self) -> &Text
         ensures { result.now ≡ self.now.uri }
     {
         &self.uri
     }
 
+    /// The names of the collections, rising by their bytes.
     pub fn collections(&self) -> &Texts
         ensures { result.now ≡ self.now.collections }
     {
         &self.collections
     }
 
+    /// The JSON tree.
     pub fn root(&self) -> &Node
         ensures value { result.now ≡ self.now.root }
         ensures rules { IsDocument self.now }
@@ -101,6 +105,7 @@ impl Document {
         self.size
     }
 
+    /// An equal document, in time and memory of its size.
     pub fn copy(&self, alloc: Global) -> Result<Document, AllocError>
         ensures { IfOk result (λ d. d ≡ self.now) }
     {

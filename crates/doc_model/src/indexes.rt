@@ -62,6 +62,7 @@ impl Indexes {
         }
     }
 
+    /// The pairs, in the order in which they were declared.
     pub fn as_slice(&self) -> &[(Text, Kind)]
         ensures value { result.now ≡ self.now }
         ensures rules { IsTrue (is_index_list self.now) }
@@ -76,6 +77,7 @@ impl Indexes {
         has_pair(self.list.as_slice(), name, kind)
     }
 
+    /// Equal indexes, in time and memory of their names.
     pub fn copy(&self, alloc: Global) -> Result<Indexes, AllocError>
         ensures { IfOk result (λ x. x ≡ self.now) }
     {

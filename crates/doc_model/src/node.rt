@@ -25,6 +25,7 @@ pub type Nodes = Items<Node>;
 pub type Members = Items<(Text, Node)>;
 
 impl Node {
+    /// An equal tree, in time and memory of its size. It goes as deep as the tree.
     #[cycle(copy)]
     pub fn copy(&self, alloc: Global) -> Result<Node, AllocError>
         ensures { IfOk result (λ n. n ≡ self.now) }

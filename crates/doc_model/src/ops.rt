@@ -3,14 +3,14 @@ ghost use Rattle.std.specs.List.{list_all};
 ghost use Rattle.doc_model.specs.Operations.{AreOps, broken_ops_rule, op_size, removes_uri};
 
 use crate::{Op, OpsRefusal};
-use sqlite_items::Items;
 use std::alloc::{AllocError, Global};
 use std::marker::Model;
 
-/// The operations of one commit: 1 to 1,000, whose documents have a size of at most 2^24 together.
+/// The operations of one commit: 1 to 1,000, whose documents have a size of at most 2^24 together. A removal
+/// has no size.
 #[derive(Debug, Drop)]
 pub struct Ops {
-    list: Items<Op>,
+    list: Vec<Op>,
 }
 
 impl Model for Ops {
@@ -24,9 +24,9 @@ impl Model for Ops {
 
     ghost coded = { coded_list op.the_row.coded };
 
-    ghost view = { λ o. o.list };
+    ghost view = { λ o. o.list.items };
 
-    ghost invariant = { λ o. AreOps o.list };
+    ghost invariant = { λ o. AreOps o.list.items };
 }
 
 const MOST_OPERATIONS: usize = 1000;
@@ -46,13 +46,12 @@ impl Ops {
             return Err(OpsRefusal::Count { n: n as u64 });
         }
         match spend_ops(&list, MOST_SIZE) {
-            Some(_) => Ok(Ops {
-                list: Items::from_vec(list),
-            }),
+            Some(_) => Ok(Ops { list }),
             None => Err(OpsRefusal::Size),
         }
     }
 
+    /// The operations, in order.
     pub fn as_slice(&self) -> &[Op]
         ensures value { result.now ≡ self.now }
         ensures rules { AreOps self.now }
@@ -60,10 +59,20 @@ impl Ops {
         self.list.as_slice()
     }
 
+    /// Gives the list back, without taking memory.
+    pub fn into_vec(self) -> Vec<Op>
+        ensures value { result.items ≡ self }
+        ensures rules { AreOps self }
+    {
+        let Ops { list } = self;
+        list
+    }
+
+    /// Equal operations, in time and memory of their documents and URIs.
     pub fn copy(&self, alloc: Global) -> Result<Ops, AllocError>
         ensures { IfOk result (λ o. o ≡ self.now) }
     {
-        let list = copy_list(alloc, &self.list)?;
+        let list = copy_list(alloc, self.list.as_slice())?;
         Ok(Ops { list })
     }
 }
@@ -87,11 +96,11 @@ fn spend_ops(list: &[Op], left: u64) -> Option<u64>
     Some(rest)
 }
 
-fn copy_list(alloc: Global, list: &Items<Op>) -> Result<Items<Op>, AllocError>
-    ensures { IfOk result (λ o. o ≡ list.now) }
+fn copy_list(alloc: Global, list: &[Op]) -> Result<Vec<Op>, AllocError>
+    ensures { IfOk result (λ o. o.items ≡ list.now) }
 {
-    let mut out = Items::new(alloc);
-    for op in list.as_slice() {
+    let mut out = Vec::new(alloc);
+    for op in list {
         out.push(op.copy(alloc)?)?;
     }
     Ok(out)

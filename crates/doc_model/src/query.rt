@@ -29,9 +29,12 @@ pub enum Compare {
 pub enum Query {
     True,
     False,
+    /// Every child holds; so it does without children.
     And(Items<Query>),
+    /// Some child holds.
     Or(Items<Query>),
     Not(Boxed<Query>),
+    /// The first holds and the second doesn't.
     AndNot {
         positive: Boxed<Query>,
         negative: Boxed<Query>,
@@ -47,7 +50,7 @@ pub enum Query {
         texts: Texts,
         case: Case,
     },
-    /// A scalar of one of the named properties equals some value.
+    /// A scalar of one of the named properties equals some value: texts by their words or, if `exact`, as strings.
     PropValue {
         names: Texts,
         values: Scalars,
@@ -60,17 +63,21 @@ pub enum Query {
         op: Compare,
         values: Scalars,
     },
-    /// The words of the children stand close to each other.
+    /// Each child starts at some word so that the greatest number less the least is at most `distance`, and they
+    /// rise in the children's order if `ordered`.
     Near {
         queries: Items<Query>,
         distance: u32,
         ordered: bool,
     },
+    /// The document is in one of these collections.
     Collection(Texts),
+    /// The URI is one of these and a rest, which isn't empty and has no slash unless `infinite`.
     Directory {
         uris: Texts,
         infinite: bool,
     },
+    /// The URI is one of these.
     DocUri(Texts),
 }
 
@@ -78,6 +85,7 @@ pub enum Query {
 pub type Queries = Items<Query>;
 
 impl Query {
+    /// An equal query, in time and memory of its size. It goes as deep as the query.
     #[cycle(copy_query)]
     pub fn copy(&self, alloc: Global) -> Result<Query, AllocError>
         ensures { IfOk result (λ q. q ≡ self.now) }

@@ -13,6 +13,7 @@ pub enum DocRefusal {
     Names,
     /// The nodes, and the bytes of all texts, names, the URI and the collections, are more than 2^24 together.
     Size,
+    /// There was no memory to look for doubled names.
     Memory,
 }
 
@@ -28,15 +29,17 @@ pub enum OpsRefusal {
 /// Why a query isn't answered: the first rule that it breaks, or want of memory.
 #[derive(Debug, Drop)]
 pub enum QueryBad {
-    /// More than `limit` queries lie within each other.
+    /// More than `limit` queries lie within each other, the outermost counted.
     TooDeep { limit: u32 },
     /// The queries, texts, names, values and URIs are more than `limit` together.
     TooMany { limit: u32 },
     /// The URI of a directory doesn't end with a slash.
     BadDirectory,
-    /// A child of a near query is neither a word query nor an or-query of such.
+    /// A child of a near query is neither a word query, of a property or not, nor an or-query of such children.
     NearChild,
-    /// A range query compares a property with a value for which there is no index.
+    /// A range query compares a property with a value for which there is no index. The first such pair counts: a
+    /// query comes before its children, and in one query each name is taken with its values in turn.
     NoRange { name: Text, kind: Kind },
+    /// There was no memory for the name of the missing index.
     Memory,
 }

@@ -13,9 +13,11 @@ pub enum Scalar {
     Text(Text),
 }
 
+/// A list of scalars, in order.
 pub type Scalars = Items<Scalar>;
 
 impl Scalar {
+    /// An equal value, in time and memory of its bytes.
     pub fn copy(&self, alloc: Global) -> Result<Scalar, AllocError>
         ensures { IfOk result (λ s. s ≡ self.now) }
     {

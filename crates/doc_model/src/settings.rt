@@ -14,6 +14,7 @@ pub struct Settings {
 }
 
 impl Settings {
+    /// Equal settings.
     pub fn copy(&self, alloc: Global) -> Result<Settings, AllocError>
         ensures { IfOk result (λ s. s ≡ self.now) }
     {

@@ -78,6 +78,7 @@ impl Text {
         inner
     }
 
+    /// A copy of a string.
     pub fn from_str(alloc: Global, text: &str) -> Result<Text, AllocError>
         ensures { IfOk result (λ t. t ≡ text.now) }
     {
@@ -86,12 +87,14 @@ impl Text {
         })
     }
 
+    /// The text as a string.
     pub fn as_str(&self) -> &str
         ensures { result.now ≡ self.now }
     {
         self.inner.as_str()
     }
 
+    /// An equal text, in time and memory of its bytes.
     pub fn copy(&self, alloc: Global) -> Result<Text, AllocError>
         ensures { IfOk result (λ t. t ≡ self.now) }
     {

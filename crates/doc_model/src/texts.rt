@@ -1,14 +1,13 @@
 ghost use Rattle.std.specs.Prelude.{◌≡◌, ◌++◌, ◌∷◌, [], IfOk, OnOk, OnErr, length};
 
 use crate::Text;
-use sqlite_items::Items;
 use std::alloc::{AllocError, Global};
 use std::marker::Model;
 
 /// A list of texts. Contracts see the list of their bytes.
 #[derive(Debug, Drop)]
 pub struct Texts {
-    list: Items<Text>,
+    list: Vec<Text>,
 }
 
 impl Model for Texts {
@@ -16,15 +15,16 @@ impl Model for Texts {
 
     ghost Value = { List (List ℕ) };
 
-    ghost view = { λ t. t.list };
+    ghost view = { λ t. t.list.items };
 }
 
 impl Texts {
+    /// No text.
     pub fn new(alloc: Global) -> Texts
         ensures { result ≡ [] }
     {
         Texts {
-            list: Items::new(alloc),
+            list: Vec::new(alloc),
         }
     }
 
@@ -32,17 +32,25 @@ impl Texts {
     pub fn from_vec(list: Vec<Text>) -> Texts
         ensures { result ≡ list.items }
     {
-        Texts {
-            list: Items::from_vec(list),
-        }
+        Texts { list }
     }
 
+    /// Gives the list back, without taking memory.
+    pub fn into_vec(self) -> Vec<Text>
+        ensures { result.items ≡ self }
+    {
+        let Texts { list } = self;
+        list
+    }
+
+    /// The texts, in order.
     pub fn as_slice(&self) -> &[Text]
         ensures { result.now ≡ self.now }
     {
         self.list.as_slice()
     }
 
+    /// How many there are.
     pub fn len(&self) -> usize
         ensures { result ≡ length self.now }
     {
@@ -54,9 +62,11 @@ impl Texts {
         ensures ok { OnOk result (self.new ≡ self.old ++ text ∷ []) }
         ensures err { OnErr result (self.new ≡ self.old) }
     {
-        self.list.push(text)
+        self.list.push(text)?;
+        Ok(())
     }
 
+    /// An equal list, in time and memory of its bytes.
     pub fn copy(&self, alloc: Global) -> Result<Texts, AllocError>
         ensures { IfOk result (λ t. t ≡ self.now) }
     {
