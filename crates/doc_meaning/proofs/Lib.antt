@@ -1,6 +1,9 @@
+pub mod AnyLemmas
+pub mod BoundsLemmas
 pub mod CommitLemmas
 pub mod HistoryLemmas
 pub mod MeaningLemmas
 pub mod NearLemmas
 pub mod SortedLemmas
+pub mod StandLemmas
 pub mod WordsLemmas

@@ -6,6 +6,7 @@ use Rattle.std.specs.Cmp.Lexicographic.{slice_cmp}
 use Rattle.std.specs.Ordering.{nat_cmp}
 use Rattle.doc_model.specs.Documents.{PlainDocument}
 use Rattle.doc_model.specs.Operations.{uri_of}
+use Rattle.doc_model.specs.Queries.{Index, broken_query_rule}
 use Rattle.doc_model.specs.Tree.{is_among, is_distinct}
 use Rattle.doc_model.specs.declared.entry.Entry.{Entry}
 use Rattle.doc_model.specs.declared.entry.Entry.TheVariants.{Commit}
@@ -14,6 +15,7 @@ use Rattle.doc_model.specs.declared.op.Op.TheVariants.{Put, Remove}
 use Rattle.doc_model.specs.declared.query.Query.{Query}
 use Rattle.doc_model.specs.declared.query.Query.TheVariants.{And, Near}
 use Rattle.doc_meaning.specs.Answers.{answer}
+use Rattle.doc_meaning.specs.Estimates.{maybe, sure}
 use Rattle.doc_meaning.specs.History.{History, first, front, merge, latest, database_at, shown, base_at}
 use Rattle.doc_meaning.specs.Meaning.{sat}
 use Rattle.doc_meaning.specs.Near.{is_near, IsNear}
@@ -45,6 +47,14 @@ NearIsAChoice = (distance : ℕ) (ordered : Bool) (children : List (List ℕ)) �
 abbrev pub NearHoldsFurther : Type 0
 NearHoldsFurther = (queries : List Query) (distance further : ℕ) (ordered : Bool) (d : PlainDocument) → distance ≤ further →
     IsTrue (sat (Near queries distance ordered) d) → IsTrue (sat (Near queries further ordered) d)
+
+-- a document that passes the first test of a query that breaks no rule satisfies it
+abbrev pub SureSatisfies : Type 0
+SureSatisfies = (q : Query) (indexes : List Index) (d : PlainDocument) → broken_query_rule q indexes ≡ None → IsTrue (sure q d) → IsTrue (sat q d)
+
+-- a document that satisfies a query that breaks no rule passes the second test
+abbrev pub SatisfiesMaybe : Type 0
+SatisfiesMaybe = (q : Query) (indexes : List Index) (d : PlainDocument) → broken_query_rule q indexes ≡ None → IsTrue (sat q d) → IsTrue (maybe q d)
 
 -- the history with one more commit
 abbrev pub with_commit : History → List Op → History

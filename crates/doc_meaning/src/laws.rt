@@ -1,4 +1,4 @@
-ghost use Rattle.doc_meaning.specs.Laws.{AndSatisfiesEach, AnswersAreSorted, FirstIsTheSame, LaterEntriesChangeNothing, NearHoldsFurther, NearIsAChoice, OthersStay, PutIsLive, RemovedIsGone, ShownIsTheSame, WordsAreMaximalRuns};
+ghost use Rattle.doc_meaning.specs.Laws.{AndSatisfiesEach, AnswersAreSorted, FirstIsTheSame, LaterEntriesChangeNothing, NearHoldsFurther, NearIsAChoice, OthersStay, PutIsLive, RemovedIsGone, SatisfiesMaybe, ShownIsTheSame, SureSatisfies, WordsAreMaximalRuns};
 
 /// The words of a text are exactly its maximal runs of word characters.
 pub fn words_are_maximal_runs()
@@ -23,6 +23,16 @@ pub fn near_is_a_choice()
 /// Near holds with every greater distance.
 pub fn near_holds_further()
     ensures { NearHoldsFurther }
+{}
+
+/// A document that passes the first test of a query that breaks no rule satisfies it.
+pub fn sure_satisfies()
+    ensures { SureSatisfies }
+{}
+
+/// A document that satisfies a query that breaks no rule passes the second test.
+pub fn satisfies_maybe()
+    ensures { SatisfiesMaybe }
 {}
 
 /// Further entries change no earlier database.
