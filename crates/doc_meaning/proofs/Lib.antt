@@ -1,6 +1,11 @@
+pub mod AnyLemmas
+pub mod BoundsLemmas
 pub mod CommitLemmas
+pub mod EstimateLemmas
 pub mod HistoryLemmas
 pub mod MeaningLemmas
 pub mod NearLemmas
+pub mod RisingLemmas
 pub mod SortedLemmas
+pub mod StandLemmas
 pub mod WordsLemmas

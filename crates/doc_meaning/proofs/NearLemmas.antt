@@ -1,8 +1,8 @@
 -- A choice of one start of each child.
-use Rattle.std.proofs.Common.{◌≡◌, ℕ, ◌+◌, ◌≤◌, ◌&&◌, ◌||◌, not, leb, Bool, true, false, List, [], ◌∷◌, map, flat_map, All, Decides, refl, sym, ap, ◌∙◌, arith, le-leb, leb-true}
+use Rattle.std.proofs.Common.{◌≡◌, ℕ, ◌+◌, ◌≤◌, ◌&&◌, ◌||◌, not, leb, Bool, true, false, List, [], ◌∷◌, map, All, Decides, refl, sym, ap, ◌∙◌, arith, le-leb, leb-true}
 use Rattle.std.proofs.lemmas.Bool.{and_from, and_parts}
 use Rattle.std.proofs.lemmas.Bool.Decides.{Decides-by_and}
-use Rattle.std.proofs.lemmas.List.Folds.{Any-from_list_any, list_any-append, list_any-from_Any}
+use Rattle.std.proofs.lemmas.List.Folds.{Any-from_list_any, list_any-from_Any}
 use Rattle.std.specs.List.{list_all, list_any}
 use Rattle.doc_model.specs.declared.query.Query.{Query}
 use Rattle.doc_model.specs.declared.query.Query.TheOpen.{Query-F}
@@ -13,18 +13,7 @@ use Rattle.doc_meaning.specs.declared.meaning.Meaning.{Meaning}
 use Rattle.doc_meaning.specs.Laws.{NearHoldsFurther, NearIsAChoice}
 use Rattle.doc_meaning.specs.Meaning.{meaning, meaning_step, sat}
 use Rattle.doc_meaning.specs.Near.{ChoosesOne, IsNear, choices, is_near, is_rising, is_within}
-
-any-map : {A B : Type 0} (p : B → Bool) (f : A → B) (xs : List A) → list_any p (map f xs) ≡ list_any (λ x. p (f x)) xs
-any-map p f [] = refl
-any-map p f (x ∷ xs) = ap (λ b. p (f x) || b) (any-map p f xs)
-
-any-flat_map : {A B : Type 0} (p : B → Bool) (f : A → List B) (xs : List A) → list_any p (flat_map f xs) ≡ list_any (λ x. list_any p (f x)) xs
-any-flat_map p f [] = refl
-any-flat_map p f (x ∷ xs) = list_any-append p (f x) (flat_map f xs) ∙ ap (λ b. list_any p (f x) || b) (any-flat_map p f xs)
-
-any_same : {A : Type 0} (p q : A → Bool) → ((x : A) → p x ≡ q x) → (xs : List A) → list_any p xs ≡ list_any q xs
-any_same p q same [] = refl
-any_same p q same (x ∷ xs) = ap (λ b. b || list_any p xs) (same x) ∙ ap (λ b. q x || b) (any_same p q same xs)
+use Rattle.doc_meaning.proofs.AnyLemmas.{any-flat_map, any-map, any_same}
 
 -- some choice passes where, with some number of the first list, some choice of the others does
 any_choice : (p : List ℕ → Bool) (ns : List ℕ) (rest : List (List ℕ)) → list_any p (choices (ns ∷ rest)) ≡ list_any (λ n. list_any (λ chosen. p (n ∷ chosen)) (choices rest)) ns
@@ -73,7 +62,7 @@ module _ (distance : ℕ) (ordered : Bool) (children : List (List ℕ)) where
   abbrev is_close : List ℕ → Bool
   is_close chosen = is_within distance chosen && (not ordered || is_rising chosen)
 
-  near_of : is_near distance ordered children ≡ true → IsNear distance ordered children
+  pub near_of : is_near distance ordered children ≡ true → IsNear distance ordered children
   unfolding is_near
   near_of near =
       let choice = choice_of is_close children near in
@@ -85,7 +74,7 @@ module _ (distance : ℕ) (ordered : Bool) (children : List (List ℕ)) where
         rises = rises_of ordered (is_rising choice.0) parts.1;
       }
 
-  near_from : IsNear distance ordered children → is_near distance ordered children ≡ true
+  pub near_from : IsNear distance ordered children → is_near distance ordered children ≡ true
   unfolding is_near
   near_from near = choice_from is_close children near.chosen near.one_each
       (and_from _ _ ((within_decides distance near.chosen).1 near.close) (rises_from ordered (is_rising near.chosen) near.rises))

@@ -1,11 +1,13 @@
 -- Laws that the definitions keep.
-use Rattle.std.specs.Prelude.{ℕ, ◌≡◌, ◌+◌, ◌≤◌, ◌↔◌, IsTrue, Bool, false, List, [], ◌∷◌, ◌++◌, All, IsUtf8, map, Option, Some, None, slice_get}
+use Rattle.std.specs.Prelude.{ℕ, ◌≡◌, ◌+◌, ◌<◌, ◌≤◌, ◌↔◌, IsTrue, Bool, false, List, [], ◌∷◌, ◌++◌, All, IsUtf8, map, length, Option, Some, None, slice_get}
 use Rattle.std.specs.FinMap.{get}
+use Rattle.std.specs.List.{AllAdjacentBelow}
 use Rattle.std.specs.List.Sorted.{IsStrictlySortedBy}
 use Rattle.std.specs.Cmp.Lexicographic.{slice_cmp}
 use Rattle.std.specs.Ordering.{nat_cmp}
 use Rattle.doc_model.specs.Documents.{PlainDocument}
 use Rattle.doc_model.specs.Operations.{uri_of}
+use Rattle.doc_model.specs.Queries.{Index, broken_query_rule}
 use Rattle.doc_model.specs.Tree.{is_among, is_distinct}
 use Rattle.doc_model.specs.declared.entry.Entry.{Entry}
 use Rattle.doc_model.specs.declared.entry.Entry.TheVariants.{Commit}
@@ -13,10 +15,11 @@ use Rattle.doc_model.specs.declared.op.Op.{Op}
 use Rattle.doc_model.specs.declared.op.Op.TheVariants.{Put, Remove}
 use Rattle.doc_model.specs.declared.query.Query.{Query}
 use Rattle.doc_model.specs.declared.query.Query.TheVariants.{And, Near}
-use Rattle.doc_meaning.specs.Answers.{answer}
+use Rattle.doc_meaning.specs.Answers.{answer, estimate}
+use Rattle.doc_meaning.specs.Estimates.{maybe, sure}
 use Rattle.doc_meaning.specs.History.{History, first, front, merge, latest, database_at, shown, base_at}
 use Rattle.doc_meaning.specs.Meaning.{sat}
-use Rattle.doc_meaning.specs.Near.{is_near, IsNear}
+use Rattle.doc_meaning.specs.Near.{is_near, is_rising, IsNear}
 use Rattle.doc_meaning.specs.Runs.{AreMaximalRuns}
 use Rattle.doc_meaning.specs.Words.{words}
 
@@ -41,10 +44,26 @@ AndSatisfiesEach = (queries : List Query) (d : PlainDocument) → IsTrue (sat (A
 abbrev pub NearIsAChoice : Type 0
 NearIsAChoice = (distance : ℕ) (ordered : Bool) (children : List (List ℕ)) → IsTrue (is_near distance ordered children) ↔ IsNear distance ordered children
 
+-- numbers rise where each is below the next
+abbrev pub RisingRises : Type 0
+RisingRises = (ns : List ℕ) → IsTrue (is_rising ns) ↔ AllAdjacentBelow (λ n next. n < next) ns (length ns)
+
 -- near holds with every greater distance
 abbrev pub NearHoldsFurther : Type 0
 NearHoldsFurther = (queries : List Query) (distance further : ℕ) (ordered : Bool) (d : PlainDocument) → distance ≤ further →
     IsTrue (sat (Near queries distance ordered) d) → IsTrue (sat (Near queries further ordered) d)
+
+-- a document that passes the first test of a query that breaks no rule satisfies it
+abbrev pub SureSatisfies : Type 0
+SureSatisfies = (q : Query) (indexes : List Index) (d : PlainDocument) → broken_query_rule q indexes ≡ None → IsTrue (sure q d) → IsTrue (sat q d)
+
+-- a document that satisfies a query that breaks no rule passes the second test
+abbrev pub SatisfiesMaybe : Type 0
+SatisfiesMaybe = (q : Query) (indexes : List Index) (d : PlainDocument) → broken_query_rule q indexes ≡ None → IsTrue (sat q d) → IsTrue (maybe q d)
+
+-- no fewer are estimated than answered
+abbrev pub EstimateIsNoLess : Type 0
+EstimateIsNoLess = (h : History) (at : ℕ) (q : Query) (indexes : List Index) → broken_query_rule q indexes ≡ None → length (answer h at q) ≤ estimate h at q
 
 -- the history with one more commit
 abbrev pub with_commit : History → List Op → History
@@ -74,3 +93,7 @@ ShownIsTheSame = (h : History) (at : ℕ) → merge h ≤ at → at ≤ front h 
 -- the first entries have the same databases up to there
 abbrev pub FirstIsTheSame : Type 0
 FirstIsTheSame = (h : History) (to at : ℕ) → at ≤ to → database_at (first h to) at ≡ database_at h at
+
+-- the first entries end at that timestamp
+abbrev pub FirstEndsThere : Type 0
+FirstEndsThere = (h : History) (at : ℕ) → h.base.front ≤ at → at ≤ front h → front (first h at) ≡ at

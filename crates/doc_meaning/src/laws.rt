@@ -1,4 +1,4 @@
-ghost use Rattle.doc_meaning.specs.Laws.{AndSatisfiesEach, AnswersAreSorted, FirstIsTheSame, LaterEntriesChangeNothing, NearHoldsFurther, NearIsAChoice, OthersStay, PutIsLive, RemovedIsGone, ShownIsTheSame, WordsAreMaximalRuns};
+ghost use Rattle.doc_meaning.specs.Laws.{AndSatisfiesEach, AnswersAreSorted, EstimateIsNoLess, FirstEndsThere, FirstIsTheSame, LaterEntriesChangeNothing, NearHoldsFurther, NearIsAChoice, OthersStay, PutIsLive, RemovedIsGone, RisingRises, SatisfiesMaybe, ShownIsTheSame, SureSatisfies, WordsAreMaximalRuns};
 
 /// The words of a text are exactly its maximal runs of word characters.
 pub fn words_are_maximal_runs()
@@ -20,9 +20,29 @@ pub fn near_is_a_choice()
     ensures { NearIsAChoice }
 {}
 
+/// Numbers rise where each is below the next.
+pub fn rising_rises()
+    ensures { RisingRises }
+{}
+
 /// Near holds with every greater distance.
 pub fn near_holds_further()
     ensures { NearHoldsFurther }
+{}
+
+/// A document that passes the first test of a query that breaks no rule satisfies it.
+pub fn sure_satisfies()
+    ensures { SureSatisfies }
+{}
+
+/// A document that satisfies a query that breaks no rule passes the second test.
+pub fn satisfies_maybe()
+    ensures { SatisfiesMaybe }
+{}
+
+/// No fewer documents are estimated than answered, of a query that breaks no rule.
+pub fn estimate_is_no_less()
+    ensures { EstimateIsNoLess }
 {}
 
 /// Further entries change no earlier database.
@@ -53,4 +73,9 @@ pub fn shown_is_the_same()
 /// The first entries have the same databases up to there.
 pub fn first_is_the_same()
     ensures { FirstIsTheSame }
+{}
+
+/// The first entries end at that timestamp.
+pub fn first_ends_there()
+    ensures { FirstEndsThere }
 {}
