@@ -1,5 +1,5 @@
 -- Documents, and the rules that each keeps.
-use Rattle.std.specs.Prelude.{ℕ, Bool, ◌+◌, ◌^◌, nat_lt, not, List, length, sum_by, Option, Some, None, is_none, IsTrue, if◌then◌else◌, refl}
+use Rattle.std.specs.Prelude.{ℕ, ◌≡◌, ◌⊎◌, Bool, ◌+◌, ◌^◌, nat_lt, not, List, length, sum_by, Option, Some, None, is_none, IsTrue, if◌then◌else◌, refl}
 use Rattle.std.specs.Coded.{Coded, code_by, coded×, coded_list, coded_ℕ}
 use Rattle.doc_model.specs.contracts.node.Node as node
 use Rattle.doc_model.specs.declared.node.Node.{Node}
@@ -13,6 +13,9 @@ pub record PlainDocument : Type 0 where
   pub uri : List ℕ
   pub collections : List (List ℕ)
   pub root : Node
+
+abbrev pub document_of : List ℕ → List (List ℕ) → Node → PlainDocument
+document_of uri collections root = record { uri = uri; collections = collections; root = root }
 
 -- it is stored as the tuple of its parts
 abbrev pub document_code : Coded PlainDocument
@@ -34,6 +37,14 @@ broken_rule d =
     else if nat_lt (2 ^ 24) (document_size d) then Some rule.Size
     else None
 
+-- a refusal names the first rule that is broken, or want of memory
+abbrev pub IsRefused : PlainDocument → DocRefusal → Type 0
+IsRefused d why = (why ≡ rule.Memory) ⊎ (broken_rule d ≡ Some why)
+
 -- a document keeps every rule
 abbrev pub IsDocument : PlainDocument → Type 0
 IsDocument d = IsTrue (is_none (broken_rule d))
+
+-- a document, and its size
+abbrev pub IsSized : PlainDocument → ℕ → Type 0
+IsSized d size = IsDocument d × (size ≡ document_size d)

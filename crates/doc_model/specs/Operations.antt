@@ -13,6 +13,7 @@ abbrev pub uri_of : Op → List ℕ
 uri_of (Put document expect) = document.uri
 uri_of (Remove uri expect) = uri
 
+-- the timestamp that an operation expects, if any
 abbrev pub expect_of : Op → Option ℕ
 expect_of (Put document expect) = expect
 expect_of (Remove uri expect) = expect

@@ -8,10 +8,11 @@ use Rattle.std.specs.Ordering.{nat_cmp, is_lt}
 abbrev pub is_name : List ℕ → Bool
 is_name text = nat_le 1 (length text) && nat_le (length text) 1024
 
--- no control character and no space
+-- a byte of a URI: not below 0x21, and not 0x7F
 abbrev pub is_uri_byte : ℕ → Bool
 is_uri_byte byte = nat_le 0x21 byte && not (byte == 0x7F)
 
+-- 1 to 1,024 such bytes
 abbrev pub is_uri : List ℕ → Bool
 is_uri uri = is_name uri && list_all is_uri_byte uri
 

@@ -1,5 +1,5 @@
-ghost use Rattle.std.specs.Prelude.{◌≡◌, ◌⊎◌, OnOk, IfErr, Some, None};
-ghost use Rattle.doc_model.specs.Queries.{broken_query_rule};
+ghost use Rattle.std.specs.Prelude.{◌≡◌, OnOk, IfErr, None};
+ghost use Rattle.doc_model.specs.Queries.{broken_query_rule, RefusesQuery};
 
 mod count;
 mod depth;
@@ -27,7 +27,7 @@ const MOST_PARTS: u32 = 10_000;
 /// range query.
 pub fn check_query(alloc: Global, query: &Query, indexes: &Indexes) -> Result<(), QueryBad>
     ensures ok { OnOk result (broken_query_rule query.now indexes.now ≡ None) }
-    ensures refused { IfErr result (λ why. (why ≡ QueryBad.Memory) ⊎ (broken_query_rule query.now indexes.now ≡ Some why)) }
+    ensures refused { IfErr result (RefusesQuery query.now indexes.now) }
 {
     if !is_within(query, MOST_DEPTH) {
         return Err(QueryBad::TooDeep { limit: MOST_DEPTH });

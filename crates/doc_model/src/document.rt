@@ -1,5 +1,6 @@
-ghost use Rattle.std.specs.Prelude.{◌≡◌, ◌≤◌, ◌⊎◌, IfOk, OnOk, IfErr, MatchOption, Some, ◌<◌, ◌+◌};
-ghost use Rattle.doc_model.specs.Documents.{PlainDocument, IsDocument, broken_rule, document_size};
+ghost use Rattle.std.specs.Prelude.{◌≡◌, IfOk, OnOk, IfErr};
+ghost use Rattle.doc_model.specs.Documents.{IsDocument, IsRefused, document_of, document_size};
+ghost use Rattle.doc_model.specs.Tree.{Leaves};
 
 use crate::depth::is_within;
 use crate::names::has_distinct_names;
@@ -19,16 +20,15 @@ pub struct Document {
 }
 
 impl Model for Document {
-    ghost use Rattle.std.specs.Prelude.{◌≡◌};
-    ghost use Rattle.doc_model.specs.Documents.{PlainDocument, document_code, IsDocument, document_size};
+    ghost use Rattle.doc_model.specs.Documents.{PlainDocument, document_code, document_of, IsSized};
 
     ghost Value = { PlainDocument };
 
     ghost coded = { document_code };
 
-    ghost view = { λ d. record { uri = d.uri; collections = d.collections; root = d.root } };
+    ghost view = { λ d. document_of d.uri d.collections d.root };
 
-    ghost invariant = { λ d. IsDocument (record { uri = d.uri; collections = d.collections; root = d.root }) × (d.size ≡ document_size (record { uri = d.uri; collections = d.collections; root = d.root })) };
+    ghost invariant = { λ d. IsSized (document_of d.uri d.collections d.root) d.size };
 }
 
 const MOST_DEPTH: u32 = 128;
@@ -46,9 +46,9 @@ impl Document {
         collections: Texts,
         root: Node,
     ) -> Result<Document, DocRefusal>
-        ensures kept { IfOk result (λ d. d ≡ record { uri = uri; collections = collections; root = root }) }
-        ensures rules { OnOk result (IsDocument (record { uri = uri; collections = collections; root = root })) }
-        ensures refused { IfErr result (λ why. (why ≡ DocRefusal.Memory) ⊎ (broken_rule (record { uri = uri; collections = collections; root = root }) ≡ Some why)) }
+        ensures kept { IfOk result (λ d. d ≡ document_of uri collections root) }
+        ensures rules { OnOk result (IsDocument (document_of uri collections root)) }
+        ensures refused { IfErr result (IsRefused (document_of uri collections root)) }
     {
         if !is_uri(uri.as_str()) {
             return Err(DocRefusal::Uri);
@@ -120,7 +120,7 @@ impl Document {
 
 /// What is left of the greatest size. `None` says that the parts are larger.
 fn spend_document(uri: &Text, collections: &Texts, root: &Node) -> Option<u64>
-    ensures { MatchOption result (MOST_SIZE < document_size (record { uri = uri.now; collections = collections.now; root = root.now })) (λ left. left + document_size (record { uri = uri.now; collections = collections.now; root = root.now }) ≡ MOST_SIZE) }
+    ensures { Leaves MOST_SIZE (document_size (document_of uri.now collections.now root.now)) result }
 {
     let left = MOST_SIZE.checked_sub(uri.as_str().len() as u64)?;
     let left = spend_texts(collections.as_slice(), left)?;

@@ -1,6 +1,7 @@
-ghost use Rattle.std.specs.Prelude.{◌≡◌, ◌+◌, ◌<◌, IfOk, OnOk, IfErr, MatchOption, Some, IsTrue, sum_by};
+ghost use Rattle.std.specs.Prelude.{◌≡◌, IfOk, OnOk, IfErr, Some, IsTrue, sum_by};
 ghost use Rattle.std.specs.List.{list_all};
 ghost use Rattle.doc_model.specs.Operations.{AreOps, broken_ops_rule, op_size, removes_uri};
+ghost use Rattle.doc_model.specs.Tree.{Leaves};
 
 use crate::{Op, OpsRefusal};
 use std::alloc::{AllocError, Global};
@@ -87,7 +88,7 @@ fn size_of(op: &Op) -> u64
 }
 
 fn spend_ops(list: &[Op], left: u64) -> Option<u64>
-    ensures { MatchOption result (left < sum_by op_size list.now) (λ rest. rest + sum_by op_size list.now ≡ left) }
+    ensures { Leaves left (sum_by op_size list.now) result }
 {
     let mut rest = left;
     for op in list {

@@ -1,5 +1,5 @@
-ghost use Rattle.std.specs.Prelude.{◌≡◌, ◌+◌, ◌<◌, MatchOption, sum_by, length};
-ghost use Rattle.doc_model.specs.Tree.{size};
+ghost use Rattle.std.specs.Prelude.{◌+◌, sum_by, length};
+ghost use Rattle.doc_model.specs.Tree.{size, Leaves};
 
 use crate::{Members, Node, Nodes, Text};
 
@@ -8,7 +8,7 @@ use crate::{Members, Node, Nodes, Text};
 /// It stops as soon as the budget is spent.
 #[cycle(spend)]
 pub fn spend(node: &Node, left: u64) -> Option<u64>
-    ensures { MatchOption result (left < size node.now) (λ rest. rest + size node.now ≡ left) }
+    ensures { Leaves left (size node.now) result }
 {
     let left = left.checked_sub(1)?;
     match node {
@@ -21,7 +21,7 @@ pub fn spend(node: &Node, left: u64) -> Option<u64>
 
 #[cycle(spend)]
 fn spend_items(items: &Nodes, left: u64) -> Option<u64>
-    ensures { MatchOption result (left < sum_by size items.now) (λ rest. rest + sum_by size items.now ≡ left) }
+    ensures { Leaves left (sum_by size items.now) result }
 {
     let mut rest = left;
     for item in items.as_slice() {
@@ -32,7 +32,7 @@ fn spend_items(items: &Nodes, left: u64) -> Option<u64>
 
 #[cycle(spend)]
 fn spend_members(members: &Members, left: u64) -> Option<u64>
-    ensures { MatchOption result (left < sum_by (λ m. length m.0 + size m.1) members.now) (λ rest. rest + sum_by (λ m. length m.0 + size m.1) members.now ≡ left) }
+    ensures { Leaves left (sum_by (λ m. length m.0 + size m.1) members.now) result }
 {
     let mut rest = left;
     for member in members.as_slice() {
@@ -44,7 +44,7 @@ fn spend_members(members: &Members, left: u64) -> Option<u64>
 
 /// The same for the bytes of texts.
 pub fn spend_texts(texts: &[Text], left: u64) -> Option<u64>
-    ensures { MatchOption result (left < sum_by length texts.now) (λ rest. rest + sum_by length texts.now ≡ left) }
+    ensures { Leaves left (sum_by length texts.now) result }
 {
     let mut rest = left;
     for text in texts {

@@ -1,5 +1,6 @@
-ghost use Rattle.std.specs.Prelude.{◌≡◌, ◌<◌, ◌+◌, MatchOption, sum_by, length};
+ghost use Rattle.std.specs.Prelude.{sum_by};
 ghost use Rattle.doc_model.specs.Queries.{query_count};
+ghost use Rattle.doc_model.specs.Tree.{Leaves};
 
 use crate::{Queries, Query};
 
@@ -7,7 +8,7 @@ use crate::{Queries, Query};
 /// `None` says that they are more. It stops as soon as the budget is spent.
 #[cycle(count)]
 pub fn spend(query: &Query, left: u32) -> Option<u32>
-    ensures { MatchOption result (left < query_count query.now) (λ rest. rest + query_count query.now ≡ left) }
+    ensures { Leaves left (query_count query.now) result }
 {
     let left = left.checked_sub(1)?;
     match query {
@@ -36,7 +37,7 @@ pub fn spend(query: &Query, left: u32) -> Option<u32>
 
 #[cycle(count)]
 fn spend_all(queries: &Queries, left: u32) -> Option<u32>
-    ensures { MatchOption result (left < sum_by query_count queries.now) (λ rest. rest + sum_by query_count queries.now ≡ left) }
+    ensures { Leaves left (sum_by query_count queries.now) result }
 {
     let mut rest = left;
     for query in queries.as_slice() {
@@ -46,7 +47,7 @@ fn spend_all(queries: &Queries, left: u32) -> Option<u32>
 }
 
 fn take_off(left: u32, count: usize) -> Option<u32>
-    ensures { MatchOption result (left < count) (λ rest. rest + count ≡ left) }
+    ensures { Leaves left count result }
 {
     if count > left as usize {
         return None;

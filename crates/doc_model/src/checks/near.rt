@@ -1,6 +1,5 @@
 ghost use Rattle.std.specs.Prelude.{◌≡◌, ◌&&◌, false};
-ghost use Rattle.std.specs.List.{list_all};
-ghost use Rattle.doc_model.specs.Queries.{near_fit};
+ghost use Rattle.doc_model.specs.Queries.{near_fit, near_fit_of_all};
 
 use crate::{Queries, Query};
 
@@ -54,7 +53,7 @@ fn no_child(fits: bool) -> NearFit
 /// The same of all of some queries.
 #[cycle(near)]
 fn all_fit(queries: &Queries) -> NearFit
-    ensures { result ≡ record { may_be_near = list_all (λ q. (near_fit q).may_be_near) queries.now; fits = list_all (λ q. (near_fit q).fits) queries.now } }
+    ensures { result ≡ near_fit_of_all queries.now }
 {
     let mut all = NearFit {
         may_be_near: true,

@@ -1,7 +1,6 @@
-ghost use Rattle.std.specs.Prelude.{◌≡◌, IfOk, not, map, flat_map};
-ghost use Rattle.std.specs.List.{find};
+ghost use Rattle.std.specs.Prelude.{◌≡◌, IfOk, map, flat_map};
 ghost use Rattle.std.specs.Option.{option_map};
-ghost use Rattle.doc_model.specs.Queries.{missing_index, kind_of, kinds_of, wanted_indexes, is_indexed};
+ghost use Rattle.doc_model.specs.Queries.{missing_index, first_missing, range_indexes, kind_of, kinds_of, wanted_indexes};
 
 use crate::{Indexes, Kind, Queries, Query, Scalar, Scalars, Text, Texts};
 use std::alloc::{AllocError, Global};
@@ -37,7 +36,7 @@ fn missing_in_any(
     queries: &Queries,
     indexes: &Indexes,
 ) -> Result<Option<(Text, Kind)>, AllocError>
-    ensures { IfOk result (λ missing. missing ≡ find (λ index. not (is_indexed indexes.now index)) (flat_map wanted_indexes queries.now)) }
+    ensures { IfOk result (λ missing. missing ≡ first_missing indexes.now (flat_map wanted_indexes queries.now)) }
 {
     for query in queries.as_slice() {
         if let Some(missing) = missing_index(alloc, query, indexes)? {
@@ -53,7 +52,7 @@ fn missing_in_range(
     values: &Scalars,
     indexes: &Indexes,
 ) -> Result<Option<(Text, Kind)>, AllocError>
-    ensures { IfOk result (λ missing. missing ≡ find (λ index. not (is_indexed indexes.now index)) (flat_map (λ name. map (λ k. (name, k)) (kinds_of values.now)) names.now)) }
+    ensures { IfOk result (λ missing. missing ≡ first_missing indexes.now (range_indexes names.now values.now)) }
 {
     for name in names.as_slice() {
         if let Some(kind) = missing_of_name(name, values, indexes) {
@@ -64,7 +63,7 @@ fn missing_in_range(
 }
 
 fn missing_of_name(name: &Text, values: &Scalars, indexes: &Indexes) -> Option<Kind>
-    ensures { option_map (λ k. (name.now, k)) result ≡ find (λ index. not (is_indexed indexes.now index)) (map (λ k. (name.now, k)) (kinds_of values.now)) }
+    ensures { option_map (λ k. (name.now, k)) result ≡ first_missing indexes.now (map (λ k. (name.now, k)) (kinds_of values.now)) }
 {
     for value in values.as_slice() {
         if let Some(kind) = kind_of(value) {
