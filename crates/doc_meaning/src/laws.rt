@@ -1,4 +1,7 @@
-ghost use Rattle.doc_meaning.specs.Laws.{AndSatisfiesEach, AnswersAreSorted, EstimateIsNoLess, FirstEndsThere, FirstIsTheSame, LaterEntriesChangeNothing, NearHoldsFurther, NearIsAChoice, OthersStay, PutIsLive, RemovedIsGone, RisingRises, SatisfiesMaybe, ShownIsTheSame, SureSatisfies, WordsAreMaximalRuns};
+ghost use Rattle.doc_meaning.specs.Laws.{AndSatisfiesEach, NearHoldsFurther, NearIsAChoice, RisingRises, WordsAreMaximalRuns};
+ghost use Rattle.doc_meaning.specs.Laws.{AnswersAreSorted, EstimateIsNoLess, SatisfiesMaybe, SureSatisfies};
+ghost use Rattle.doc_meaning.specs.Laws.{FirstEndsThere, FirstIsTheSame, LaterEntriesChangeNothing, ShownIsTheSame};
+ghost use Rattle.doc_meaning.specs.Laws.{OthersStay, PutIsLive, RemovedIsGone};
 
 /// The words of a text are exactly its maximal runs of word characters.
 pub fn words_are_maximal_runs()
