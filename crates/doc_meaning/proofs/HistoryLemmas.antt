@@ -1,15 +1,15 @@
 -- The databases of a history with more entries, or with fewer.
-use Rattle.std.proofs.Common.{◌≡◌, ℕ, ◌+◌, ◌-◌, cond, leb, List, [], ◌∷◌, ◌++◌, length, take, refl, sym, ap, ◌∙◌, arith, take_all}
+use Rattle.std.proofs.Common.{◌≡◌, ℕ, ◌+◌, ◌-◌, ◌≤◌, cond, leb, List, [], ◌∷◌, ◌++◌, length, take, refl, sym, ap, ◌∙◌, arith, take_all}
 use Rattle.std.proofs.lemmas.Bool.{cond-false, cond-true, le-leb, lt-leb}
 use Rattle.std.proofs.lemmas.List.FromFn.{get_or-map-range_with_len}
 use Rattle.std.specs.FinMap.{empty}
 use Rattle.doc_model.specs.declared.entry.Entry.{Entry}
 use Rattle.doc_model.specs.declared.entry.Entry.TheVariants.{Commit}
 use Rattle.doc_model.specs.declared.op.Op.{Op}
-use Rattle.doc_meaning.specs.History.{Base, Database, History, after_entries, after_entry, after_ops, base_at, database_at, front, latest, merge}
-use Rattle.doc_meaning.specs.Laws.{ShownIsTheSame, with_commit}
+use Rattle.doc_meaning.specs.History.{Base, Database, History, after_entries, after_entry, after_ops, base_at, database_at, front, latest, merge, shown}
+use Rattle.doc_meaning.specs.Laws.{with_commit}
 
-pub shown_is_the_same : ShownIsTheSame
+pub shown_is_the_same : (h : History) (at : ℕ) → merge h ≤ at → at ≤ front h → base_at (shown h) at ≡ database_at h at
 shown_is_the_same h at low high = get_or-map-range_with_len (database_at h) (merge h) (front h + 1 - merge h) (at - merge h) at empty (omega arith) (omega arith)
 
 after_entries-append : (at : ℕ) (xs : List Entry) (y : Entry) (db : Database) →

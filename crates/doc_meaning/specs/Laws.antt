@@ -36,7 +36,7 @@ abbrev pub LaterEntriesChangeNothing : Type 0
 LaterEntriesChangeNothing = (h : History) (more : List Entry) (at : ℕ) → at ≤ front h →
     database_at (record h { entries = h.entries ++ more }) at ≡ database_at h at
 
--- a document that satisfies and-queries satisfies each child
+-- a document satisfies an and-query exactly where it satisfies each child
 abbrev pub AndSatisfiesEach : Type 0
 AndSatisfiesEach = (queries : List Query) (d : PlainDocument) → IsTrue (sat (And queries) d) ↔ All (λ q. IsTrue (sat q d)) queries
 
@@ -86,9 +86,10 @@ abbrev pub OthersStay : Type 0
 OthersStay = (h : History) (ops : List Op) (uri : List ℕ) → is_among (map uri_of ops) uri ≡ false →
     get (latest (with_commit h ops)) uri ≡ get (latest h) uri
 
--- what is shown of a history has its databases from the merge timestamp to the front
+-- what is shown of a history has its front, merge timestamp and settings, and its databases from the one to the other
 abbrev pub ShownIsTheSame : Type 0
-ShownIsTheSame = (h : History) (at : ℕ) → merge h ≤ at → at ≤ front h → base_at (shown h) at ≡ database_at h at
+ShownIsTheSame = (h : History) → ((shown h).front ≡ front h) × ((shown h).merge ≡ merge h) × ((shown h).settings ≡ h.base.settings)
+    × ((at : ℕ) → merge h ≤ at → at ≤ front h → base_at (shown h) at ≡ database_at h at)
 
 -- the first entries have the same databases up to there
 abbrev pub FirstIsTheSame : Type 0

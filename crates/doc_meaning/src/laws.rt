@@ -13,7 +13,7 @@ pub fn answers_are_sorted()
     ensures { AnswersAreSorted }
 {}
 
-/// A document that satisfies and-queries satisfies each child.
+/// A document satisfies an and-query exactly where it satisfies each child.
 pub fn and_satisfies_each()
     ensures { AndSatisfiesEach }
 {}
@@ -68,7 +68,7 @@ pub fn others_stay()
     ensures { OthersStay }
 {}
 
-/// What is shown of a history has its databases from the merge timestamp to the front.
+/// What is shown of a history has its front, merge timestamp and settings, and its databases between.
 pub fn shown_is_the_same()
     ensures { ShownIsTheSame }
 {}
