@@ -1,0 +1,6 @@
+pub mod Numbers
+pub mod Mantissas
+pub mod Strings
+pub mod Grammar
+pub mod Places
+pub mod Reading

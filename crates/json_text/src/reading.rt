@@ -1,0 +1,60 @@
+ghost use Rattle.std.specs.Prelude.{◌≡◌, ◌-◌};
+ghost use Rattle.json_text.specs.Reading.{Gives, text_read, placed, Answers};
+
+use crate::bad::JsonBad;
+use crate::fault::{Fault, Stop};
+use crate::scan::{behind_white, unexpected};
+use crate::value::value;
+use doc_model::Node;
+use std::alloc::Global;
+
+/// How many arrays and objects may enclose each other.
+const DEEPEST: u32 = 128;
+
+#[tactic(auto, unfolding(crate::specs::Reading::text_read))]
+fn whole(alloc: Global, bytes: &[u8]) -> Result<Node, Stop>
+    ensures { Gives (λ n. n) result (text_read bytes.now) }
+{
+    let (node, rest) = value(alloc, DEEPEST, behind_white(bytes))?;
+    let rest = behind_white(rest);
+    if !rest.is_empty() {
+        return Err(Stop::Fault(unexpected(rest)));
+    }
+    Ok(node)
+}
+
+fn place(len: usize, left: usize) -> u64
+    ensures { result ≡ len - left }
+{
+    len.saturating_sub(left) as u64
+}
+
+fn placed(len: usize, fault: Fault) -> JsonBad
+    ensures { result ≡ placed len fault }
+{
+    match fault {
+        Fault::Syntax(left) => JsonBad::Syntax {
+            place: place(len, left),
+        },
+        Fault::Utf8(left) => JsonBad::Utf8 {
+            place: place(len, left),
+        },
+        Fault::Depth(left) => JsonBad::Depth {
+            place: place(len, left),
+        },
+        Fault::Number(left) => JsonBad::Number {
+            place: place(len, left),
+        },
+    }
+}
+
+/// The tree whose text the bytes are, in time n log n: of members with one name the last value counts.
+pub fn read(alloc: Global, bytes: &[u8]) -> Result<Node, JsonBad>
+    ensures { Answers bytes.now result }
+{
+    match whole(alloc, bytes) {
+        Ok(node) => Ok(node),
+        Err(Stop::Fault(fault)) => Err(placed(bytes.len(), fault)),
+        Err(Stop::Memory) => Err(JsonBad::Memory),
+    }
+}
