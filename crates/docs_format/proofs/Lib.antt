@@ -1,0 +1,9 @@
+pub mod Keeping
+pub mod Lists
+pub mod Parts
+pub mod Seen
+pub mod Digits
+pub mod Fields
+pub mod Trees
+pub mod Takes
+pub mod Again

@@ -1,0 +1,156 @@
+-- Reading from left to right, as far as the first field that doesn't fit.
+use Rattle.std.specs.Prelude.{ℕ, zero, suc, ℤ, ◌-◌, Bool, true, false, ◌&&◌, not, nat_lt, nat_le, ◌==◌, List, [], ◌∷◌, ◌++◌, map, length, take, drop, is_none, Result, Ok, Err, if◌then◌else◌}
+use Rattle.std.specs.Cmp.Lexicographic.{slice_cmp}
+use Rattle.std.specs.Int.{w128, cast_signed}
+use Rattle.std.specs.Ordering.{nat_cmp, is_lt}
+use Rattle.std.specs.Str.{is_utf8}
+use Rattle.byteorder.specs.Endian.{big_number}
+use Rattle.doc_model.specs.Documents.{PlainDocument, broken_rule}
+use Rattle.doc_model.specs.Tree.{is_among}
+use Rattle.doc_model.specs.Uri.{is_name, is_uri}
+use Rattle.doc_model.specs.declared.node.Node.{Node}
+use Rattle.doc_model.specs.declared.node.Node.TheVariants as node
+use Rattle.docs_format.specs.Spelling.{is_decimal}
+
+-- the field at the front of some bytes and the bytes behind it, or how many bytes are left from the fault on
+abbrev pub Read : Type 0 → Type 0
+Read X = Result (X × List ℕ) ℕ
+
+infixl 10 ◌>>=◌
+abbrev pub ◌>>=◌ : {X Y : Type 0} → Result X ℕ → (X → Result Y ℕ) → Result Y ℕ
+(Ok x) >>= f = f x
+(Err left) >>= f = Err left
+
+-- a field that keeps a rule; if it doesn't, the fault is at its first byte
+abbrev pub keeping : {X : Type 0} → (X → Bool) → (List ℕ → Read X) → List ℕ → Read X
+keeping rule field_at bytes = do
+  field ← field_at bytes
+  if rule field.0 then Ok field else Err (length bytes)
+
+-- a number in so many bytes, the highest first
+unfoldable pub wide_at : ℕ → List ℕ → Read ℕ
+wide_at width bytes = if nat_lt (length bytes) width then Err 0 else Ok (big_number width bytes, drop width bytes)
+
+unfoldable pub count_at : List ℕ → Read ℕ
+count_at = wide_at 4
+
+-- two's complement
+unfoldable pub units_at : List ℕ → Read ℤ
+units_at bytes = do
+  bits ← wide_at 16 bytes
+  Ok (cast_signed w128 bits.0, bits.1)
+
+unfoldable pub number_at : List ℕ → Read ℤ
+number_at = keeping is_decimal units_at
+
+-- a length, and as many bytes
+unfoldable pub bytes_at : List ℕ → Read (List ℕ)
+bytes_at bytes = do
+  len ← count_at bytes
+  if nat_lt (length len.1) len.0 then Err 0 else Ok (take len.0 len.1, drop len.0 len.1)
+
+unfoldable pub text_at : List ℕ → Read (List ℕ)
+text_at = keeping is_utf8 bytes_at
+
+unfoldable pub uri_at : List ℕ → Read (List ℕ)
+uri_at = keeping is_uri text_at
+
+-- so many values behind some that were read, each read in view of those before it
+unfoldable pub list_at : {X : Type 0} → (List X → List ℕ → Read X) → List X → ℕ → List ℕ → Read (List X)
+list_at item_at before zero bytes = Ok (before, bytes)
+list_at item_at before (suc n) bytes = do
+  item ← item_at before bytes
+  list_at item_at (before ++ item.0 ∷ []) n item.1
+
+-- the last name of some
+abbrev pub last_of : List (List ℕ) → List ℕ
+last_of [] = []
+last_of (name ∷ []) = name
+last_of (name ∷ next ∷ names) = last_of (next ∷ names)
+
+-- a name that may stand behind another one among the collections
+abbrev pub is_next : List ℕ → List ℕ → Bool
+is_next last name = is_name name && is_lt (slice_cmp nat_cmp last name)
+
+unfoldable pub collection_at : List ℕ → List ℕ → Read (List ℕ)
+collection_at last = keeping (is_next last) text_at
+
+unfoldable pub collections_at : List ℕ → Read (List (List ℕ))
+collections_at bytes = do
+  n ← keeping (λ n. nat_le n 64) count_at bytes
+  list_at (λ before. collection_at (last_of before)) [] n.0 n.1
+
+-- the name of a member isn't among those before it
+unfoldable pub name_at : List (List ℕ) → List ℕ → Read (List ℕ)
+name_at before = keeping (λ name. not (is_among before name)) text_at
+
+-- the names of members
+abbrev pub names : List (List ℕ × Node) → List (List ℕ)
+names members = map (λ member. member.0) members
+
+-- a member behind others, given how a value is read
+unfoldable pub member_at : (List ℕ → Read Node) → List (List ℕ × Node) → List ℕ → Read (List ℕ × Node)
+member_at value_at before bytes = do
+  name ← name_at (names before) bytes
+  value ← value_at name.1
+  Ok ((name.0, value.0), value.1)
+
+-- what stands in an array
+unfoldable pub items_at : (List ℕ → Read Node) → List ℕ → Read Node
+items_at value_at bytes = do
+  n ← count_at bytes
+  items ← list_at (λ before. value_at) [] n.0 n.1
+  Ok (node.Items items.0, items.1)
+
+-- what stands in an object
+unfoldable pub members_at : (List ℕ → Read Node) → List ℕ → Read Node
+members_at value_at bytes = do
+  n ← count_at bytes
+  members ← list_at (member_at value_at) [] n.0 n.1
+  Ok (node.Members members.0, members.1)
+
+unfoldable pub kind_at : List ℕ → Read ℕ
+kind_at [] = Err 0
+kind_at (kind ∷ rest) = Ok (kind, rest)
+
+-- a node, given how the rest of an array and of an object is read
+unfoldable pub node_of : (List ℕ → Read Node) → (List ℕ → Read Node) → List ℕ → Read Node
+node_of array_at object_at bytes = do
+  kind ← kind_at bytes
+  if kind.0 == 0 then Ok (node.Null, kind.1)
+      else if kind.0 == 1 then Ok (node.Bool false, kind.1)
+      else if kind.0 == 2 then Ok (node.Bool true, kind.1)
+      else if kind.0 == 3 then (number_at kind.1 >>= λ units. Ok (node.Num units.0, units.1))
+      else if kind.0 == 4 then (text_at kind.1 >>= λ text. Ok (node.Text text.0, text.1))
+      else if kind.0 == 5 then array_at kind.1
+      else if kind.0 == 6 then object_at kind.1
+      else Err (length bytes)
+
+-- a node in which at most so many arrays and objects enclose each other; one too many doesn't fit at its kind
+unfoldable pub node_at : ℕ → List ℕ → Read Node
+node_at zero bytes = node_of (λ rest. Err (length bytes)) (λ rest. Err (length bytes)) bytes
+node_at (suc depth) bytes = node_of (items_at (node_at depth)) (members_at (node_at depth)) bytes
+
+unfoldable pub document_at : List ℕ → Read PlainDocument
+document_at bytes = do
+  uri ← uri_at bytes
+  collections ← collections_at uri.1
+  root ← node_at 128 collections.1
+  Ok (record { uri = uri.0; collections = collections.0; root = root.0 }, root.1)
+
+-- a document with no byte behind it; where a rule isn't kept that no field shows, as that of the size, the fault is at the first byte
+unfoldable pub whole_of : List ℕ → Result PlainDocument ℕ
+whole_of bytes = do
+  d ← document_at bytes
+  if not (length d.1 == 0) then Err (length d.1)
+      else if is_none (broken_rule d.0) then Ok d.0
+      else Err (length bytes)
+
+-- the place of a fault in bytes of this length
+abbrev pub placed : ℕ → Result PlainDocument ℕ → Result PlainDocument ℕ
+placed len (Ok d) = Ok d
+placed len (Err left) = Err (len - left)
+
+-- the document that bytes spell, or the place of the first field that doesn't fit
+abbrev pub document_of : List ℕ → Result PlainDocument ℕ
+document_of bytes = placed (length bytes) (whole_of bytes)

@@ -1,0 +1,49 @@
+ghost use Rattle.std.specs.Prelude.{◌≡◌};
+ghost use Rattle.docs_format.specs.Answers.{Gives};
+ghost use Rattle.docs_format.specs.Reading.{collection_at, collections_at, is_next};
+
+use crate::fault::Stop;
+use crate::reader::Reader;
+use doc_model::{Text, Texts};
+use std::alloc::Global;
+
+const MOST_COLLECTIONS: u32 = 64;
+
+/// The collections of a document, each above the one before it.
+#[tactic(auto, unfolding(crate::specs::Reading::collections_at))]
+pub fn collections_at(alloc: Global, reader: &mut Reader) -> Result<Texts, Stop>
+    ensures { Gives (λ x. (x, reader.new)) result (collections_at reader.old) }
+{
+    let left = reader.left();
+    let count = reader.count()?;
+    if count > MOST_COLLECTIONS {
+        return Err(Stop::Left(left));
+    }
+    let mut collections = Texts::new(alloc);
+    let mut last = "";
+    for _ in 0..count {
+        last = collection_at(last, reader)?;
+        collections.push(Text::from_str(alloc, last)?)?;
+    }
+    Ok(collections)
+}
+
+#[tactic(auto, unfolding(crate::specs::Reading::collection_at))]
+fn collection_at<'a>(last: &str, reader: &mut Reader<'a>) -> Result<&'a str, Stop>
+    ensures { Gives (λ x. (x.now, reader.new)) result (collection_at last.now reader.old) }
+{
+    let left = reader.left();
+    let name = reader.text()?;
+    if is_next(last, name) {
+        Ok(name)
+    } else {
+        Err(Stop::Left(left))
+    }
+}
+
+/// Whether a name may stand behind another one: it has 1 to 1,024 bytes, and is above it by its bytes.
+fn is_next(last: &str, name: &str) -> bool
+    ensures { result ≡ is_next last.now name.now }
+{
+    1 <= name.len() && name.len() <= 1024 && last < name
+}

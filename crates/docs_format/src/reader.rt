@@ -1,0 +1,126 @@
+ghost use Rattle.docs_format.specs.Answers.{Gives};
+ghost use Rattle.docs_format.specs.Reading.{bytes_at, count_at, kind_at, number_at, text_at, units_at, uri_at};
+
+use crate::fault::Stop;
+use byteorder::{BigEndian, ByteOrder};
+use doc_model::{Dec, is_uri};
+use std::marker::Model;
+
+/// Bytes that are read field by field from their front. Contracts see the bytes that are left.
+#[derive(Drop)]
+pub struct Reader<'a> {
+    rest: &'a [u8],
+}
+
+impl<'a> Model for Reader<'a> {
+    ghost use Rattle.std.specs.Prelude.{List, ℕ};
+
+    ghost Value = { List ℕ };
+
+    ghost view = { λ reader. reader.rest.now };
+}
+
+impl<'a> Reader<'a> {
+    ghost use Rattle.std.specs.Prelude.{◌≡◌, length};
+
+    pub fn new(bytes: &'a [u8]) -> Reader<'a>
+        ensures { result ≡ bytes.now }
+    {
+        Reader { rest: bytes }
+    }
+
+    /// How many bytes are left.
+    pub fn left(&self) -> usize
+        ensures { result ≡ length self.now }
+    {
+        self.rest.len()
+    }
+
+    /// The kind of a node, in one byte.
+    #[tactic(auto, unfolding(crate::specs::Reading::kind_at))]
+    pub fn kind(&mut self) -> Result<u8, Stop>
+        ensures { Gives (λ x. (x, self.new)) result (kind_at self.old) }
+    {
+        let Some((kind, rest)) = self.rest.split_first() else {
+            return Err(Stop::Left(0));
+        };
+        self.rest = rest;
+        Ok(*kind)
+    }
+
+    /// A count or a length, in four bytes.
+    #[tactic(auto, unfolding(crate::specs::Reading::count_at, crate::specs::Reading::wide_at))]
+    pub fn count(&mut self) -> Result<u32, Stop>
+        ensures { Gives (λ x. (x, self.new)) result (count_at self.old) }
+    {
+        if self.rest.len() < 4 {
+            return Err(Stop::Left(0));
+        }
+        let count = BigEndian::read_u32(self.rest);
+        self.rest = &self.rest[4..];
+        Ok(count)
+    }
+
+    /// Two's complement, in sixteen bytes.
+    #[tactic(auto, unfolding(crate::specs::Reading::units_at, crate::specs::Reading::wide_at))]
+    fn units(&mut self) -> Result<i128, Stop>
+        ensures { Gives (λ x. (x, self.new)) result (units_at self.old) }
+    {
+        if self.rest.len() < 16 {
+            return Err(Stop::Left(0));
+        }
+        let units = BigEndian::read_i128(self.rest);
+        self.rest = &self.rest[16..];
+        Ok(units)
+    }
+
+    #[tactic(auto, unfolding(crate::specs::Reading::number_at))]
+    pub fn number(&mut self) -> Result<Dec, Stop>
+        ensures { Gives (λ x. (x, self.new)) result (number_at self.old) }
+    {
+        let left = self.left();
+        match Dec::of_units(self.units()?) {
+            Some(number) => Ok(number),
+            None => Err(Stop::Left(left)),
+        }
+    }
+
+    /// A length, and as many bytes.
+    #[tactic(auto, unfolding(crate::specs::Reading::bytes_at))]
+    fn bytes(&mut self) -> Result<&'a [u8], Stop>
+        ensures { Gives (λ x. (x.now, self.new)) result (bytes_at self.old) }
+    {
+        let len = self.count()? as usize;
+        if self.rest.len() < len {
+            return Err(Stop::Left(0));
+        }
+        let (bytes, rest) = self.rest.split_at(len);
+        self.rest = rest;
+        Ok(bytes)
+    }
+
+    /// A text, which isn't copied.
+    #[tactic(auto, unfolding(crate::specs::Reading::text_at))]
+    pub fn text(&mut self) -> Result<&'a str, Stop>
+        ensures { Gives (λ x. (x.now, self.new)) result (text_at self.old) }
+    {
+        let left = self.left();
+        match str::from_utf8(self.bytes()?) {
+            Ok(text) => Ok(text),
+            Err(_) => Err(Stop::Left(left)),
+        }
+    }
+
+    #[tactic(auto, unfolding(crate::specs::Reading::uri_at))]
+    pub fn uri(&mut self) -> Result<&'a str, Stop>
+        ensures { Gives (λ x. (x.now, self.new)) result (uri_at self.old) }
+    {
+        let left = self.left();
+        let uri = self.text()?;
+        if is_uri(uri) {
+            Ok(uri)
+        } else {
+            Err(Stop::Left(left))
+        }
+    }
+}
