@@ -1,3 +1,4 @@
 pub mod ChangesLemmas
 pub mod HeldLemmas
+pub mod Pieces
 pub mod ResultLemmas
