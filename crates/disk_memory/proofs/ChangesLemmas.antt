@@ -1,7 +1,7 @@
 -- One change more, and a change taken back.
-use Rattle.std.proofs.Common.{◌≡◌, inl, inr, ℕ, ◌+◌, ◌-◌, ◌<◌, ◌≤◌, List, [], ◌∷◌, ◌++◌, length, take, drop, Vec, refl, sym, append_assoc, length-append, ◌∙◌, ap, subst, arith, max}
+use Rattle.std.proofs.Common.{List, Vec, [], ap, append_assoc, arith, drop, get_or, inl, inr, length, length-append, length-drop, max, min, refl, subst, suc, sym, take, zero, ℕ, ◌++◌, ◌+◌, ◌-◌, ◌<◌, ◌∙◌, ◌∷◌, ◌≡◌, ◌≤◌}
 use Rattle.std.specs.declared.alloc.Global.{Global}
-use Rattle.std.proofs.lemmas.List.{take-append-drop, take-append-le, drop-drop, length-take-le}
+use Rattle.std.proofs.lemmas.List.{take-append-drop, take-append-le, drop-drop, length-take, length-take-le}
 use Rattle.std.proofs.Math.Seq.{take-append_seam, drop-append_seam}
 use Rattle.std.proofs.lemmas.Grind.{common_steps}
 use Rattle.disk_model.proofs.LogsLemmas.{parts, front_part, back_part, torn_same, cut_same}
@@ -78,3 +78,33 @@ makes_write place bytes content (MissedCut len) h old new made = absurd h
 pub written_short : (old bytes : List ℕ) (place bound : ℕ) → place ≤ length old → length old ≤ bound → place + length bytes ≤ bound
     → length (written_at old place bytes) ≤ bound
 written_short old bytes place bound le short end = grind (arith, common_steps)
+
+-- the first bytes of a write
+pub part_torn : (place n m : ℕ) (bytes old new : List ℕ) → m ≤ n → length bytes ≡ m → new ≡ take place old ++ bytes ++ drop (place + m) old → Torn place n old new
+part_torn place n m bytes old new le len is = record {
+  bytes = bytes ++ take (n - m) (drop (place + m) old);
+  rest = is ∙ rest_of;
+  no_shorter = omega (arith, ap length is, lengths);
+  no_longer = omega (arith, ap length is, lengths);
+}
+  where
+    rest_of : take place old ++ bytes ++ drop (place + m) old ≡ take place old ++ (bytes ++ take (n - m) (drop (place + m) old)) ++ drop (place + n) old
+    rest_of = let sum : place + m + (n - m) ≡ place + n = omega arith in
+        rw (← sum, ← drop-drop (n - m) (place + m) old, append_assoc, append_assoc, append_assoc, take-append-drop (n - m) (drop (place + m) old)) refl
+    lengths : length (take place old ++ bytes ++ drop (place + m) old) ≡ min place (length old) + m + (length old - (place + m))
+    lengths = simp (length-append, length-take, length-drop, len) refl
+
+-- the change at a place is taken back
+pub undone_step : (changes : List Change) (change : Change) (m : ℕ) (bytes : List ℕ) → m < length changes → change ≡ get_or changes m change
+    → undone (take m changes) (undo change bytes) ≡ undone (take (suc m) changes) bytes
+undone_step [] change m bytes lt is = absurd (omega arith)
+undone_step (c ∷ changes) change zero bytes lt is = ap (λ (k : Change). undo k bytes) is
+undone_step (c ∷ changes) change (suc m) bytes lt is = ap (undo c) (undone_step changes change m bytes (omega arith) is)
+
+-- the change at a place may have happened
+pub may_step : (changes : List Change) (change : Change) (m : ℕ) (old middle new : List ℕ) → m < length changes → change ≡ get_or changes m change
+    → MayHold (take m changes) old middle → MayMake change middle new → MayHold (take (suc m) changes) old new
+may_step [] change m old middle new lt is before made = absurd (omega arith)
+may_step (c ∷ changes) change zero old middle new lt is before made =
+    (new, subst (λ (k : Change). MayMake k old new) is (subst (λ (m : List ℕ). MayMake change m new) before made), refl)
+may_step (c ∷ changes) change (suc m) old middle new lt is (x, first, rest) made = (x, first, may_step changes change m x middle new (omega arith) is rest made)

@@ -4,7 +4,7 @@ use Rattle.std.specs.Prelude.{slice_get}
 use Rattle.std.specs.declared.alloc.Global.{Global}
 use Rattle.std.specs.declared.snapshot.Snapshot.{Snapshot}
 use Rattle.std.proofs.lemmas.List.{get_or-set_same, get_or-set_other, drop-append-le}
-use Rattle.std.proofs.lemmas.Option.{slice_get-get_or}
+use Rattle.std.proofs.lemmas.Option.{slice_get-get_or, slice_get_past}
 use Rattle.std.proofs.lemmas.Grind.{common_steps}
 use Rattle.disk_model.specs.Changes.{Any, OnlyAt}
 use Rattle.disk_model.specs.Logs.{Image, Follows, Settled}
@@ -12,7 +12,7 @@ use Rattle.disk_model.specs.Moments.{Elapses}
 use Rattle.disk_memory.specs.declared.change.Change.{Change}
 use Rattle.disk_memory.specs.declared.log.MemoryLog.{MemoryLog}
 use Rattle.disk_memory.specs.Changes.{MayHold, MayBecome}
-use Rattle.disk_memory.specs.Held.{content_of, read_of, LeavesOf, MayLeave, MightLeave, LeftSince, Steps}
+use Rattle.disk_memory.specs.Held.{content_of, read_of, items_of, bytes_of, AreSure, AreLeft, LeavesOf, MayLeave, MightLeave, LeftSince, Steps}
 
 pub get_set_here : {A : Type 0} → (xs : List A) (i : ℕ) (x : A) → i < length xs → slice_get (slice_set xs i x) i ≡ Some x
 get_set_here [] i x lt = absurd (omega arith)
@@ -53,6 +53,20 @@ same_or_not zero zero = inl refl
 same_or_not zero (suc b) = inr (λ e. absurd (omega arith))
 same_or_not (suc a) zero = inr (λ e. absurd (omega arith))
 same_or_not (suc a) (suc b) = ⊎_elim (λ (e : a ≡ b). inl (ap suc e)) (λ (ne : a ≢ b). inr (λ e. ne (omega arith))) (same_or_not a b)
+
+lt_or_le : (a b : ℕ) → (a < b) ⊎ (b ≤ a)
+lt_or_le a zero = inr (omega arith)
+lt_or_le zero (suc b) = inl (omega arith)
+lt_or_le (suc a) (suc b) = ⊎_elim (λ (lt : a < b). inl (omega arith)) (λ (le : b ≤ a). inr (omega arith)) (lt_or_le a b)
+
+get_front : {A : Type 0} → (xs : List A) (x : A) (i : ℕ) → i < length xs → slice_get (xs ++ x ∷ []) i ≡ slice_get xs i
+get_front [] x i lt = absurd (omega arith)
+get_front (y ∷ ys) x zero lt = refl
+get_front (y ∷ ys) x (suc i) lt = get_front ys x i (omega arith)
+
+get_last : {A : Type 0} → (xs : List A) (x : A) → slice_get (xs ++ x ∷ []) (length xs) ≡ Some x
+get_last [] x = refl
+get_last (y ∷ ys) x = get_last ys x
 
 -- what a crash may leave after a change of one log is what it might have left before, with that log changed so
 pub crash_at : (logs : List MemoryLog) (file : ℕ) (log changed : MemoryLog) (change : List ℕ → List ℕ → Type 0)
@@ -154,3 +168,51 @@ settles_at logs file changed lt none sure image may =
     let left = subst (λ (l : Option MemoryLog). LeavesOf l (image file)) here (may file) in
     let held : MayHold [] changed.sure.value.items (image file) = subst (λ (cs : List Change). MayHold cs changed.sure.value.items (image file)) none left in
     held ∙ (sure ∙ sym (ap content_of here))
+
+pub sure_more : (logs : List MemoryLog) (contents : List (Vec ℕ Global)) (log : MemoryLog) (content : Vec ℕ Global) → AreSure logs contents
+    → log.content.items ≡ content.items → log.sure.value.items ≡ content.items → log.pending.items ≡ [] → AreSure (logs ++ log ∷ []) (contents ++ content ∷ [])
+sure_more [] [] log content are reads sure none = (reads, sure, none, tt)
+sure_more (l ∷ logs) (c ∷ contents) log content (a, b, d, are) reads sure none = (a, b, d, sure_more logs contents log content are reads sure none)
+sure_more [] (c ∷ contents) log content are reads sure none = absurd are
+sure_more (l ∷ logs) [] log content are reads sure none = absurd are
+
+pub sure_length : (logs : List MemoryLog) (contents : List (Vec ℕ Global)) → AreSure logs contents → length logs ≡ length contents
+sure_length [] [] are = refl
+sure_length (l ∷ logs) (c ∷ contents) (a, b, d, are) = ap suc (sure_length logs contents are)
+sure_length [] (c ∷ contents) are = absurd are
+sure_length (l ∷ logs) [] are = absurd are
+
+pub sure_reads : (logs : List MemoryLog) (contents : List (Vec ℕ Global)) → AreSure logs contents → (file : ℕ) → read_of logs file ≡ bytes_of contents file
+sure_reads [] [] are file = refl
+sure_reads (l ∷ logs) (c ∷ contents) (a, b, d, are) zero = a
+sure_reads (l ∷ logs) (c ∷ contents) (a, b, d, are) (suc file) = sure_reads logs contents are file
+sure_reads [] (c ∷ contents) are file = absurd are
+sure_reads (l ∷ logs) [] are file = absurd are
+
+sure_leaves : (logs : List MemoryLog) (contents : List (Vec ℕ Global)) → AreSure logs contents → (file : ℕ) (bytes : List ℕ) → LeavesOf (slice_get logs file) bytes → bytes ≡ bytes_of contents file
+sure_leaves [] [] are file bytes left = left
+sure_leaves (l ∷ logs) (c ∷ contents) (a, b, d, are) zero bytes left =
+    let held : MayHold [] l.sure.value.items bytes = subst (λ (cs : List Change). MayHold cs l.sure.value.items bytes) d left in held ∙ b
+sure_leaves (l ∷ logs) (c ∷ contents) (a, b, d, are) (suc file) bytes left = sure_leaves logs contents are file bytes left
+sure_leaves [] (c ∷ contents) are file bytes left = absurd are
+sure_leaves (l ∷ logs) [] are file bytes left = absurd are
+
+pub sure_only : (logs : List MemoryLog) (contents : List (Vec ℕ Global)) → AreSure logs contents → (image : Image) → MayLeave logs image → (file : ℕ) → image file ≡ bytes_of contents file
+sure_only logs contents are image may file = sure_leaves logs contents are file (image file) (may file)
+
+pub left_is_image : (logs : List MemoryLog) (contents : List (Vec ℕ Global)) → length contents ≡ length logs → AreLeft logs contents
+    → (image : Image) → ((file : ℕ) → image file ≡ bytes_of contents file) → MayLeave logs image
+left_is_image logs contents same are image is file =
+    ⊎_elim (λ (lt : file < length contents). subst (λ (bytes : List ℕ). LeavesOf (slice_get logs file) bytes) (sym (is file)) (are file lt))
+        (λ (past : length contents ≤ file). subst (λ (l : Option MemoryLog). LeavesOf l (image file)) (sym (slice_get_past logs file (omega arith))) (is file ∙ ap items_of (slice_get_past contents file past)))
+        (lt_or_le file (length contents))
+
+pub left_more : (logs : List MemoryLog) (contents : List (Vec ℕ Global)) (log : MemoryLog) (content : Vec ℕ Global) → AreLeft logs contents
+    → slice_get logs (length contents) ≡ Some log → MayHold log.pending.items log.sure.value.items content.items → AreLeft logs (contents ++ content ∷ [])
+left_more logs contents log content are here held file lt =
+    ⊎_elim (λ (below : file < length contents). subst (λ (c : Option (Vec ℕ Global)). LeavesOf (slice_get logs file) (items_of c)) (sym (get_front contents content file below)) (are file below))
+        (λ (last : length contents ≤ file). let at : file ≡ length contents = omega (arith, lt, length-append contents (content ∷ [])) in
+            subst (λ (f : ℕ). LeavesOf (slice_get logs f) (items_of (slice_get (contents ++ content ∷ []) f))) (sym at)
+                (subst (λ (c : Option (Vec ℕ Global)). LeavesOf (slice_get logs (length contents)) (items_of c)) (sym (get_last contents content))
+                    (subst (λ (l : Option MemoryLog). LeavesOf l content.items) (sym here) held)))
+        (lt_or_le file (length contents))

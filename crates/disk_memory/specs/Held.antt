@@ -1,5 +1,5 @@
 -- Logs in memory as the images that a crash may leave.
-use Rattle.std.specs.Prelude.{◌≡◌, ◌⊎◌, ℕ, List, [], ◌∷◌, drop, slice_get, Option, Some, None, length, Vec}
+use Rattle.std.specs.Prelude.{◌≡◌, ◌⊎◌, ℕ, ◌<◌, List, [], ◌∷◌, drop, slice_get, Option, Some, None, length, Vec}
 use Rattle.std.specs.declared.alloc.Global.{Global}
 use Rattle.std.specs.declared.snapshot.Snapshot.{Snapshot}
 use Rattle.disk_model.specs.Changes.{OnlyAt}
@@ -38,3 +38,22 @@ pub record Steps (file : ℕ) (change : List ℕ → List ℕ → Type 0) (past 
     (later : List (Snapshot (Vec MemoryLog Global))) (changed : List MemoryLog) : Type 0 where
   pub crash : Follows (OnlyAt file change) (MayLeave logs) (MayLeave changed)
   pub time : Elapses (length past) (length later) (LeftSince past logs) (LeftSince later changed) (MayLeave changed)
+
+abbrev pub items_of : Option (Vec ℕ Global) → List ℕ
+items_of None = []
+items_of (Some content) = content.items
+
+-- the bytes of each
+abbrev pub bytes_of : List (Vec ℕ Global) → Image
+bytes_of contents file = items_of (slice_get contents file)
+
+-- logs that hold these bytes, all of them on the disk
+abbrev pub AreSure : List MemoryLog → List (Vec ℕ Global) → Type 0
+AreSure [] [] = Unit {0}
+AreSure (log ∷ logs) (content ∷ contents) =
+    (log.content.items ≡ content.items) × (log.sure.value.items ≡ content.items) × (log.pending.items ≡ []) × AreSure logs contents
+AreSure _ _ = ⊥
+
+-- bytes that a crash may leave of each log
+abbrev pub AreLeft : List MemoryLog → List (Vec ℕ Global) → Type 0
+AreLeft logs contents = (file : ℕ) → file < length contents → LeavesOf (slice_get logs file) (bytes_of contents file)

@@ -1,15 +1,17 @@
 // A disk in memory.
-ghost use Rattle.std.specs.Prelude.{◌≡◌, ◌≤◌, ◌<◌, ◌^◌, Some, length};
+ghost use Rattle.std.specs.Prelude.{◌≡◌, ◌≤◌, ◌<◌, ◌^◌, Some, length, vec_len, ℕ, IfOk, IfSome};
 ghost use Rattle.disk_model.specs.declared.disk.TheConstants.{LOG_COUNT};
 ghost use Rattle.disk_model.specs.Causes.{Rose};
-ghost use Rattle.disk_model.specs.Logs.{ReadsAt};
-ghost use Rattle.disk_memory.specs.Held.{read_of, MayLeave, LeftSince};
+ghost use Rattle.disk_model.specs.Logs.{Image, ReadsAt, Settled};
+ghost use Rattle.disk_memory.specs.Held.{read_of, bytes_of, AreLeft, MayLeave, LeftSince};
 ghost use Rattle.disk_memory.specs.Laws.{counts_now_of, only_now_of, reads_now_of};
 
+use crate::log::MemoryLog;
 use crate::logs::MemoryLogs;
 use crate::meter::Meter;
 use crate::plan::Verdict;
 use disk_model::{Disk, Failed};
+use std::alloc::{AllocError, Global};
 
 /// A disk in memory, which tells what its logs hold and what a crash may leave of them.
 ///
@@ -24,6 +26,45 @@ pub struct MemoryDisk {
 }
 
 impl MemoryDisk {
+    /// A disk that holds these bytes, all of them sure. A log past 2^62 bytes is refused as want of memory.
+    pub fn new(alloc: Global, contents: Vec<Vec<u8>>, meter: Meter) -> Result<Self, AllocError>
+        requires { vec_len contents ≡ LOG_COUNT }
+        ensures reads { IfOk result (λ disk. IfSome (⟦<MemoryDisk as Disk>⟧.seen disk)
+            (λ image. (file : ℕ) → image file ≡ bytes_of contents.items file)) }
+        ensures sure { IfOk result (λ disk. (image : Image) → ⟦<MemoryDisk as Disk>⟧.may_leave disk image
+            → (file : ℕ) → image file ≡ bytes_of contents.items file) }
+        ensures faults { IfOk result (λ disk. ⟦<MemoryDisk as Disk>⟧.faults disk ≡ 0) }
+    {
+        let logs = MemoryLogs::new(alloc, contents)?;
+        Ok(MemoryDisk {
+            logs,
+            meter,
+            faults: 0,
+        })
+    }
+
+    /// How many changes of a log its last sync doesn't make sure of.
+    pub fn unsure(&self, file: u8) -> usize
+        requires { file < LOG_COUNT }
+    {
+        self.logs.logs[file as usize].pending.len()
+    }
+
+    /// The disk that a crash at this moment leaves, where of each change of each log so many bytes have landed: of a
+    /// write its first ones, and of a cut all or, at 0, nothing. Of a change that isn't named nothing has landed.
+    pub fn after_crash(
+        &self,
+        alloc: Global,
+        landed: &[Vec<u64>],
+        meter: Meter,
+    ) -> Result<Self, AllocError>
+        ensures left { IfOk result (λ disk. IfSome (⟦<MemoryDisk as Disk>⟧.seen disk) (⟦<MemoryDisk as Disk>⟧.may_leave self.now)) }
+        ensures sure { IfOk result (λ disk. (file : ℕ) → Settled file (⟦<MemoryDisk as Disk>⟧.seen disk) (⟦<MemoryDisk as Disk>⟧.may_leave disk)) }
+    {
+        let contents = all_left(alloc, &self.logs.logs, landed)?;
+        MemoryDisk::new(alloc, contents, meter)
+    }
+
     // Counts a fault.
     fn fail(&mut self) -> Failed
         ensures same { self.new.logs ≡ self.old.logs }
@@ -127,4 +168,24 @@ fn copy_from(content: &[u8], place: u64, out: &mut [u8]) -> usize
     let count = out.len().min(rest.len());
     out[..count].copy_from_slice(&rest[..count]);
     count
+}
+
+// What is left of each log.
+fn all_left(
+    alloc: Global,
+    logs: &[MemoryLog],
+    landed: &[Vec<u64>],
+) -> Result<Vec<Vec<u8>>, AllocError>
+    ensures len { IfOk result (λ contents. vec_len contents ≡ length logs.now) }
+    ensures left { IfOk result (λ contents. AreLeft logs.now contents.items) }
+{
+    let mut contents = Vec::new(alloc);
+    'logs: for k in 0..logs.len() {
+        let count: &[u64] = match landed.get(k) {
+            Some(landed) => landed,
+            None => &[],
+        };
+        contents.push(logs[k].left(alloc, count)?)?;
+    }
+    Ok(contents)
 }

@@ -3,6 +3,7 @@
 
 mod build;
 mod change;
+mod crash;
 mod disk;
 mod faults;
 mod file;

@@ -1,14 +1,17 @@
 // The logs of a disk in memory, and what they were before each change.
-ghost use Rattle.std.specs.Prelude.{◌≡◌, ◌≤◌, ◌<◌, ◌+◌, ◌^◌, length, vec_len, OnOk, OnErr, Some, ℕ};
+ghost use Rattle.std.specs.Prelude.{◌≡◌, ◌≤◌, ◌<◌, ◌+◌, ◌^◌, length, vec_len, OnOk, OnErr, IfOk, Some, ℕ};
 ghost use Rattle.disk_model.specs.Changes.{Any, OnlyAt};
 ghost use Rattle.disk_model.specs.Logs.{Torn, MayCut, Writes, Cuts, Settled};
 ghost use Rattle.disk_model.specs.declared.disk.TheConstants.{LOG_COUNT};
-ghost use Rattle.disk_memory.specs.Held.{read_of, MayLeave, Steps};
+ghost use Rattle.disk_memory.specs.Held.{read_of, AreSure, MayLeave, Steps};
 
 use crate::log::MemoryLog;
 use disk_model::LOG_COUNT;
 use std::alloc::{AllocError, Global};
 use std::snapshot::Snapshot;
+
+// How long a log may be.
+const LONGEST: u64 = 1 << 62;
 
 /// The logs, and what they were before each change, which has no bytes: it is for clauses alone.
 #[derive(Drop)]
@@ -20,6 +23,19 @@ pub struct MemoryLogs {
 }
 
 impl MemoryLogs {
+    /// Logs that hold these bytes, all of them on the disk. A log past 2^62 bytes is refused as want of memory.
+    pub fn new(alloc: Global, contents: Vec<Vec<u8>>) -> Result<Self, AllocError>
+        requires { vec_len contents ≡ LOG_COUNT }
+        ensures { IfOk result (λ all. AreSure all.logs.items contents.items) }
+    {
+        let logs = sure_logs(alloc, contents)?;
+        Ok(MemoryLogs {
+            alloc,
+            logs,
+            past: Vec::new(alloc),
+        })
+    }
+
     /// Writes over what is there, and past the end. Where it fails, what is read stays.
     pub fn write(&mut self, file: u8, place: u64, bytes: &[u8]) -> Result<(), AllocError>
         requires file { file < LOG_COUNT }
@@ -77,4 +93,18 @@ impl MemoryLogs {
         self.logs[file as usize].sync();
         Ok(())
     }
+}
+
+// Logs that hold these bytes, all of them on the disk.
+fn sure_logs(alloc: Global, contents: Vec<Vec<u8>>) -> Result<Vec<MemoryLog>, AllocError>
+    ensures { IfOk result (λ logs. AreSure logs.items contents.items) }
+{
+    let mut logs = Vec::new(alloc);
+    'logs: for content in contents {
+        if content.len() as u64 > LONGEST {
+            return Err(AllocError);
+        }
+        logs.push(MemoryLog::new(alloc, content))?;
+    }
+    Ok(logs)
 }
