@@ -1,11 +1,9 @@
 -- One change more, and a change taken back.
-use Rattle.std.proofs.Common.{List, Vec, [], ap, append_assoc, arith, drop, get_or, inl, inr, length, length-append, length-drop, max, min, refl, subst, suc, sym, take, zero, ℕ, ◌++◌, ◌+◌, ◌-◌, ◌<◌, ◌∙◌, ◌∷◌, ◌≡◌, ◌≤◌}
-use Rattle.std.specs.declared.alloc.Global.{Global}
-use Rattle.std.proofs.lemmas.List.{take-append-drop, take-append-le, drop-drop, length-take, length-take-le}
-use Rattle.std.proofs.Math.Seq.{take-append_seam, drop-append_seam}
+use Rattle.std.proofs.Common.{List, [], ap, append_assoc, arith, drop, get_or, length, length-append, length-drop, min, refl, subst, suc, sym, take, zero, ℕ, ◌++◌, ◌+◌, ◌-◌, ◌<◌, ◌∙◌, ◌∷◌, ◌≡◌, ◌≤◌}
+use Rattle.std.proofs.lemmas.List.{take-append-drop, drop-drop, length-take, length-take-le}
 use Rattle.std.proofs.lemmas.Grind.{common_steps}
-use Rattle.disk_model.proofs.LogsLemmas.{parts, front_part, back_part, torn_same, cut_same}
-use Rattle.disk_model.specs.Logs.{written_at, Torn, MayCut}
+use Rattle.disk_model.proofs.LogsLemmas.{parts, front_part, back_part}
+use Rattle.disk_model.specs.Logs.{written_at, Torn}
 use Rattle.disk_memory.specs.declared.change.Change.{Change}
 use Rattle.disk_memory.specs.declared.change.Change.TheVariants.{Wrote, Cut, MissedWrite, MissedCut}
 use Rattle.disk_memory.specs.Changes.{redo, redone, undo, undone, MayMake, MayHold, MayBecome, IsWrite}
@@ -91,6 +89,7 @@ part_torn place n m bytes old new le len is = record {
     rest_of : take place old ++ bytes ++ drop (place + m) old ≡ take place old ++ (bytes ++ take (n - m) (drop (place + m) old)) ++ drop (place + n) old
     rest_of = let sum : place + m + (n - m) ≡ place + n = omega arith in
         rw (← sum, ← drop-drop (n - m) (place + m) old, append_assoc, append_assoc, append_assoc, take-append-drop (n - m) (drop (place + m) old)) refl
+
     lengths : length (take place old ++ bytes ++ drop (place + m) old) ≡ min place (length old) + m + (length old - (place + m))
     lengths = simp (length-append, length-take, length-drop, len) refl
 

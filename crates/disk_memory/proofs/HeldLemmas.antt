@@ -1,18 +1,17 @@
 -- One log of several changes.
-use Rattle.std.proofs.Common.{◌≡◌, ◌≢◌, ◌⊎◌, inl, inr, ⊎_elim, ℕ, zero, suc, ◌+◌, ◌<◌, ◌≤◌, List, [], ◌∷◌, ◌++◌, length, drop, get_or, Option, Some, None, Vec, Bool, true, false, refl, sym, ◌∙◌, ap, subst, arith, length-append, slice_set, if◌then◌else◌, ◌==◌}
+use Rattle.std.proofs.Common.{◌≡◌, ◌≢◌, ◌⊎◌, inl, inr, ⊎_elim, ℕ, zero, suc, ◌+◌, ◌<◌, ◌≤◌, List, [], ◌∷◌, ◌++◌, length, drop, get_or, Option, Some, Vec, refl, sym, ◌∙◌, ap, subst, arith, length-append, slice_set}
 use Rattle.std.specs.Prelude.{slice_get}
 use Rattle.std.specs.declared.alloc.Global.{Global}
 use Rattle.std.specs.declared.snapshot.Snapshot.{Snapshot}
-use Rattle.std.proofs.lemmas.List.{get_or-set_same, get_or-set_other, drop-append-le}
+use Rattle.std.proofs.lemmas.List.{drop-append-le}
 use Rattle.std.proofs.lemmas.Option.{slice_get-get_or, slice_get_past}
-use Rattle.std.proofs.lemmas.Grind.{common_steps}
-use Rattle.disk_model.specs.Changes.{Any, OnlyAt}
-use Rattle.disk_model.specs.Logs.{Image, Follows, Settled}
+use Rattle.disk_model.specs.Changes.{OnlyAt}
+use Rattle.disk_model.specs.Logs.{Image, Follows}
 use Rattle.disk_model.specs.Moments.{Elapses}
 use Rattle.disk_memory.specs.declared.change.Change.{Change}
 use Rattle.disk_memory.specs.declared.log.MemoryLog.{MemoryLog}
 use Rattle.disk_memory.specs.Changes.{MayHold, MayBecome}
-use Rattle.disk_memory.specs.Held.{content_of, read_of, items_of, bytes_of, AreSure, AreLeft, LeavesOf, MayLeave, MightLeave, LeftSince, Steps}
+use Rattle.disk_memory.specs.Held.{content_of, read_of, items_of, bytes_of, AreSure, AreLeft, AreBlank, LeavesOf, MayLeave, MightLeave, LeftSince, Steps}
 
 pub get_set_here : {A : Type 0} → (xs : List A) (i : ℕ) (x : A) → i < length xs → slice_get (slice_set xs i x) i ≡ Some x
 get_set_here [] i x lt = absurd (omega arith)
@@ -78,20 +77,21 @@ crash_at logs file log changed change lt here becomes image may =
     let (bytes, before, made) = becomes (image file) left in
     let old = with_bytes image file bytes in
     let at_file : LeavesOf (slice_get logs file) (old file) =
-        subst (λ (l : Option MemoryLog). LeavesOf l (old file)) (sym here) (subst (λ (b : List ℕ). MayHold log.pending.items log.sure.value.items b) (sym (with_here image file bytes)) before) in
+    subst (λ (l : Option MemoryLog). LeavesOf l (old file)) (sym here) (subst (λ (b : List ℕ). MayHold log.pending.items log.sure.value.items b) (sym (with_here image file bytes)) before) in
     let at_other : (other : ℕ) → other ≢ file → LeavesOf (slice_get logs other) (old other) =
-        λ other apart. subst (λ (b : List ℕ). LeavesOf (slice_get logs other) b) (sym (with_other image file bytes other apart))
-            (subst (λ (l : Option MemoryLog). LeavesOf l (image other)) (get_set_other logs file other changed apart) (may other)) in
-    (old,
-     λ other. ⊎_elim (λ (same : other ≡ file). subst (λ (o : ℕ). LeavesOf (slice_get logs o) (old o)) (sym same) at_file) (λ (apart : other ≢ file). at_other other apart) (same_or_not other file),
-     record { here = subst (λ (b : List ℕ). change b (image file)) (sym (with_here image file bytes)) made; others = λ other apart. sym (with_other image file bytes other apart) })
+    λ other apart. subst (λ (b : List ℕ). LeavesOf (slice_get logs other) b) (sym (with_other image file bytes other apart))
+    (subst (λ (l : Option MemoryLog). LeavesOf l (image other)) (get_set_other logs file other changed apart) (may other)) in (
+      old,
+      λ other. ⊎_elim (λ (same : other ≡ file). subst (λ (o : ℕ). LeavesOf (slice_get logs o) (old o)) (sym same) at_file) (λ (apart : other ≢ file). at_other other apart) (same_or_not other file),
+      record { here = subst (λ (b : List ℕ). change b (image file)) (sym (with_here image file bytes)) made; others = λ other apart. sym (with_other image file bytes other apart) },
+    )
 
 past_more : (past : List (Snapshot (Vec MemoryLog Global))) (old : Snapshot (Vec MemoryLog Global)) (image : Image)
     → MightLeave (past ++ old ∷ []) image → MightLeave past image ⊎ MayLeave old.value.items image
 past_more [] old image (left) = ⊎_elim (λ (now : MayLeave old.value.items image). inr now) (λ (no_more : ⊥). absurd no_more) left
 past_more (p ∷ past) old image left =
     ⊎_elim (λ (now : MayLeave p.value.items image). inl (inl now))
-        (λ (rest : MightLeave (past ++ old ∷ []) image). ⊎_elim (λ (early : MightLeave past image). inl (inr early)) (λ (late : MayLeave old.value.items image). inr late) (past_more past old image rest)) left
+    (λ (rest : MightLeave (past ++ old ∷ []) image). ⊎_elim (λ (early : MightLeave past image). inl (inr early)) (λ (late : MayLeave old.value.items image). inr late) (past_more past old image rest)) left
 
 past_keeps : (past : List (Snapshot (Vec MemoryLog Global))) (old : Snapshot (Vec MemoryLog Global)) (image : Image)
     → MightLeave past image → MightLeave (past ++ old ∷ []) image
@@ -112,7 +112,7 @@ time_at past later old logs changed more was = record {
   later = omega (arith, ap length more, length-append past (old ∷ []));
   nothing_else = λ t image le left. ⊎_elim (λ (now : MayLeave changed image). inr now)
       (λ (before : MightLeave (drop t later) image). inl (⊎_elim (λ (early : MightLeave (drop t past) image). inr early) (λ (late : MayLeave old.value.items image). inl (subst (λ (ls : List MemoryLog). MayLeave ls image) was late))
-          (past_more (drop t past) old image (subst (λ (ps : List (Snapshot (Vec MemoryLog Global))). MightLeave ps image) (dropped t le) before)))) left;
+      (past_more (drop t past) old image (subst (λ (ps : List (Snapshot (Vec MemoryLog Global))). MightLeave ps image) (dropped t le) before)))) left;
   keeps = λ t image le left. inr (subst (λ (ps : List (Snapshot (Vec MemoryLog Global))). MightLeave ps image) (sym (dropped t le))
       (⊎_elim (λ (now : MayLeave logs image). past_last (drop t past) old image (subst (λ (ls : List MemoryLog). MayLeave ls image) (sym was) now)) (λ (before : MightLeave (drop t past) image). past_keeps (drop t past) old image before) left));
 }
@@ -140,7 +140,7 @@ pub read_same : (logs : List MemoryLog) (file : ℕ) (log changed : MemoryLog)
     → (other : ℕ) → read_of (slice_set logs file changed) other ≡ read_of logs other
 read_same logs file log changed lt here same other =
     ⊎_elim (λ (at : other ≡ file). subst (λ (o : ℕ). read_of (slice_set logs file changed) o ≡ read_of logs o) (sym at) (ap content_of (get_set_here logs file changed lt) ∙ (same ∙ sym (ap content_of here))))
-        (λ (apart : other ≢ file). ap content_of (get_set_other logs file other changed apart)) (same_or_not other file)
+    (λ (apart : other ≢ file). ap content_of (get_set_other logs file other changed apart)) (same_or_not other file)
 
 pub steps_at : (past later : List (Snapshot (Vec MemoryLog Global))) (old : Snapshot (Vec MemoryLog Global)) (logs : List MemoryLog) (file : ℕ) (log changed : MemoryLog) (change : List ℕ → List ℕ → Type 0)
     → later ≡ past ++ old ∷ [] → old.value.items ≡ logs → file < length logs → slice_get logs file ≡ Some log
@@ -204,15 +204,24 @@ pub left_is_image : (logs : List MemoryLog) (contents : List (Vec ℕ Global)) �
     → (image : Image) → ((file : ℕ) → image file ≡ bytes_of contents file) → MayLeave logs image
 left_is_image logs contents same are image is file =
     ⊎_elim (λ (lt : file < length contents). subst (λ (bytes : List ℕ). LeavesOf (slice_get logs file) bytes) (sym (is file)) (are file lt))
-        (λ (past : length contents ≤ file). subst (λ (l : Option MemoryLog). LeavesOf l (image file)) (sym (slice_get_past logs file (omega arith))) (is file ∙ ap items_of (slice_get_past contents file past)))
-        (lt_or_le file (length contents))
+    (λ (past : length contents ≤ file). subst (λ (l : Option MemoryLog). LeavesOf l (image file)) (sym (slice_get_past logs file (omega arith))) (is file ∙ ap items_of (slice_get_past contents file past)))
+    (lt_or_le file (length contents))
 
 pub left_more : (logs : List MemoryLog) (contents : List (Vec ℕ Global)) (log : MemoryLog) (content : Vec ℕ Global) → AreLeft logs contents
     → slice_get logs (length contents) ≡ Some log → MayHold log.pending.items log.sure.value.items content.items → AreLeft logs (contents ++ content ∷ [])
 left_more logs contents log content are here held file lt =
     ⊎_elim (λ (below : file < length contents). subst (λ (c : Option (Vec ℕ Global)). LeavesOf (slice_get logs file) (items_of c)) (sym (get_front contents content file below)) (are file below))
-        (λ (last : length contents ≤ file). let at : file ≡ length contents = omega (arith, lt, length-append contents (content ∷ [])) in
-            subst (λ (f : ℕ). LeavesOf (slice_get logs f) (items_of (slice_get (contents ++ content ∷ []) f))) (sym at)
-                (subst (λ (c : Option (Vec ℕ Global)). LeavesOf (slice_get logs (length contents)) (items_of c)) (sym (get_last contents content))
-                    (subst (λ (l : Option MemoryLog). LeavesOf l content.items) (sym here) held)))
-        (lt_or_le file (length contents))
+    (λ (last : length contents ≤ file). let at : file ≡ length contents = omega (arith, lt, length-append contents (content ∷ [])) in
+    subst (λ (f : ℕ). LeavesOf (slice_get logs f) (items_of (slice_get (contents ++ content ∷ []) f))) (sym at)
+    (subst (λ (c : Option (Vec ℕ Global)). LeavesOf (slice_get logs (length contents)) (items_of c)) (sym (get_last contents content))
+    (subst (λ (l : Option MemoryLog). LeavesOf l content.items) (sym here) held)))
+    (lt_or_le file (length contents))
+
+pub blank_more : (contents more : List (Vec ℕ Global)) (content : Vec ℕ Global) → more ≡ contents ++ content ∷ [] → content.items ≡ 0 ∷ [] → AreBlank contents → AreBlank more
+blank_more contents more content is zero_byte blank file lt =
+    let grown : length more ≡ length contents + 1 = ap length is ∙ length-append contents (content ∷ []) in
+    subst (λ (cs : List (Vec ℕ Global)). bytes_of cs file ≡ 0 ∷ []) (sym is)
+    (⊎_elim (λ (below : file < length contents). ap items_of (get_front contents content file below) ∙ blank file below)
+    (λ (last : length contents ≤ file). let at : file ≡ length contents = omega arith in
+    ap (λ (f : ℕ). items_of (slice_get (contents ++ content ∷ []) f)) at ∙ (ap items_of (get_last contents content) ∙ zero_byte))
+    (lt_or_le file (length contents)))

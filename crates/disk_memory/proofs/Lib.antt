@@ -2,3 +2,4 @@ pub mod ChangesLemmas
 pub mod HeldLemmas
 pub mod Pieces
 pub mod ResultLemmas
+pub mod SeatsLemmas

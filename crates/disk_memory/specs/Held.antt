@@ -57,3 +57,7 @@ AreSure _ _ = ⊥
 -- bytes that a crash may leave of each log
 abbrev pub AreLeft : List MemoryLog → List (Vec ℕ Global) → Type 0
 AreLeft logs contents = (file : ℕ) → file < length contents → LeavesOf (slice_get logs file) (bytes_of contents file)
+
+-- each is one zero byte
+abbrev pub AreBlank : List (Vec ℕ Global) → Type 0
+AreBlank contents = (file : ℕ) → file < length contents → bytes_of contents file ≡ 0 ∷ []

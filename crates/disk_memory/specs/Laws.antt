@@ -1,10 +1,10 @@
 -- The laws of a disk, for logs in memory.
-use Rattle.std.specs.Prelude.{◌≡◌, ◌⊎◌, ℕ, ◌+◌, ◌≤◌, List, [], ◌∷◌, ◌++◌, length, take, drop, slice_get, Option, Some, None, Vec, refl}
-use Rattle.std.proofs.Common.{inl, inr, ⊎_elim, arith, sym, ap, subst, ◌∙◌}
+use Rattle.std.specs.Prelude.{ℕ, List, [], ◌∷◌, length, drop, slice_get, Option, Some, None, Vec, refl}
+use Rattle.std.proofs.Common.{inl, inr, ⊎_elim, arith, sym, subst}
 use Rattle.std.proofs.Math.ListN.{drop_of_length-le}
 use Rattle.std.specs.declared.alloc.Global.{Global}
 use Rattle.std.specs.declared.snapshot.Snapshot.{Snapshot}
-use Rattle.disk_model.specs.Logs.{Image, Torn, written_at}
+use Rattle.disk_model.specs.Logs.{Image}
 use Rattle.disk_memory.specs.declared.change.Change.{Change}
 use Rattle.disk_memory.specs.declared.change.Change.TheVariants.{Wrote, Cut, MissedWrite, MissedCut}
 use Rattle.disk_memory.specs.declared.log.MemoryLog.{MemoryLog}

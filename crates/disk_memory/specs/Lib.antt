@@ -2,3 +2,4 @@ pub mod Changes
 pub mod Held
 pub mod Laws
 pub mod Files
+pub mod Worlds

@@ -70,12 +70,7 @@ fn replaced(
 }
 
 // What is left where so many bytes of a change have landed.
-fn land(
-    alloc: Global,
-    change: &Change,
-    count: u64,
-    old: Vec<u8>,
-) -> Result<Vec<u8>, AllocError>
+fn land(alloc: Global, change: &Change, count: u64, old: Vec<u8>) -> Result<Vec<u8>, AllocError>
     ensures { IfOk result (λ bytes. MayMake change.now old.items bytes.items) }
 {
     match change {

@@ -104,11 +104,7 @@ impl Disk for MemoryDisk {
         let Verdict::Goes = self.meter.next() else {
             return Err(self.fail());
         };
-        Ok(copy_from(
-            &self.logs.logs[file as usize].content,
-            place,
-            out,
-        ))
+        Ok(copy_from(&self.logs.logs[file as usize].content, place, out))
     }
 
     fn write_at(&mut self, file: u8, place: u64, bytes: &[u8]) -> Result<(), Failed> {

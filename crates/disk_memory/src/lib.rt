@@ -12,7 +12,11 @@ mod logs;
 mod meter;
 mod plan;
 mod port;
+mod store;
 mod streams;
+#[cfg(test)]
+mod tests;
+mod world;
 mod yard;
 
 pub use build::MemoryBuild;
@@ -21,5 +25,7 @@ pub use file::MemoryFile;
 pub use meter::Meter;
 pub use plan::{Plan, Verdict};
 pub use port::MemoryPort;
+pub use store::{MemoryStore, blank_logs, blank_store};
 pub use streams::{MemorySink, MemorySource};
+pub use world::{MemoryClient, MemoryWorld};
 pub use yard::MemoryYard;

@@ -52,12 +52,7 @@ impl MemoryLog {
     }
 
     /// Keeps a write that failed: a crash may leave any part of it.
-    pub fn miss_write(
-        &mut self,
-        alloc: Global,
-        place: u64,
-        bytes: &[u8],
-    ) -> Result<(), AllocError>
+    pub fn miss_write(&mut self, alloc: Global, place: u64, bytes: &[u8]) -> Result<(), AllocError>
         ensures same { self.new.content.items ≡ self.old.content.items }
         ensures crash { MayBecome (Torn place (length bytes.now)) self.old.pending.items self.old.sure.value.items self.new.pending.items self.new.sure.value.items }
     {
@@ -117,12 +112,7 @@ fn put(content: &mut Vec<u8>, place: usize, bytes: &[u8]) -> Result<(), AllocErr
 }
 
 // The change that a write makes, with what it will replace.
-fn written(
-    alloc: Global,
-    content: &[u8],
-    place: usize,
-    bytes: &[u8],
-) -> Result<Change, AllocError>
+fn written(alloc: Global, content: &[u8], place: usize, bytes: &[u8]) -> Result<Change, AllocError>
     requires { place ≤ length content.now }
     ensures { IfOk result (IsWrite place bytes.now content.now) }
 {

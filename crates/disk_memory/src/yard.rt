@@ -1,5 +1,6 @@
 // A yard in memory.
-ghost use Rattle.std.specs.Prelude.{◌≡◌, ◌≤◌, Some};
+ghost use Rattle.std.specs.Prelude.{◌≡◌, ◌≤◌, Some, IfSome, ℕ};
+ghost use Rattle.disk_model.specs.Files.{nothing};
 ghost use Rattle.std.specs.Ordering.{nat_cmp};
 ghost use Rattle.std.specs.BTreeMap.{get};
 ghost use Rattle.disk_model.specs.Causes.{Rose};
@@ -32,6 +33,34 @@ pub struct MemoryYard {
 }
 
 impl MemoryYard {
+    /// A yard that holds nothing.
+    pub fn new(alloc: Global, meter: Meter) -> Self
+        ensures holds { IfSome (⟦<MemoryYard as Yard>⟧.holds result) (λ slots. (number : ℕ) → slots number ≡ nothing) }
+        ensures faults { ⟦<MemoryYard as Yard>⟧.faults result ≡ 0 }
+    {
+        MemoryYard {
+            alloc,
+            entries: BTreeMap::new(alloc),
+            marks: 0,
+            meter,
+            faults: 0,
+        }
+    }
+
+    /// The yard that a crash at this moment leaves: it holds the same files.
+    pub fn after_crash(self, meter: Meter) -> Self
+        ensures holds { ⟦<MemoryYard as Yard>⟧.holds result ≡ ⟦<MemoryYard as Yard>⟧.holds self }
+        ensures faults { ⟦<MemoryYard as Yard>⟧.faults result ≡ 0 }
+    {
+        MemoryYard {
+            alloc: self.alloc,
+            entries: self.entries,
+            marks: self.marks,
+            meter,
+            faults: 0,
+        }
+    }
+
     // Counts a fault.
     fn fail(&mut self) -> Failed
         ensures same { self.new.entries ≡ self.old.entries }

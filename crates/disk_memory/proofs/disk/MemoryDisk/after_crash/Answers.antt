@@ -1,6 +1,5 @@
-use Rattle.std.proofs.Common.{◌∙◌, sym, ◌≡◌, arith, length, rules}
-use Rattle.disk_memory.proofs.HeldLemmas.{left_is_image}
-use Rattle.disk_memory.proofs.ResultLemmas.{if_ok, if_ok_both}
+use Rattle.std.proofs.Common.{◌∙◌, sym}
+use Rattle.disk_memory.proofs.ResultLemmas.{if_ok_both}
 use Rattle.disk_memory.proofs.disk.MemoryDisk.after_crash.Goals as goal
 
 pub returns-clause-sure : goal.returns-clause-sure

@@ -1,9 +1,8 @@
-use Rattle.std.proofs.Common.{◌≡◌, ℕ, List, length, sym, subst}
-use Rattle.disk_model.specs.Changes.{OnlyAt}
-use Rattle.disk_model.proofs.LogsLemmas.{torn_same, cut_same}
-use Rattle.disk_model.specs.Logs.{Torn, MayCut}
+use Rattle.std.proofs.Common.{subst}
+use Rattle.disk_model.proofs.LogsLemmas.{cut_same}
+use Rattle.disk_model.specs.Logs.{MayCut}
 use Rattle.disk_memory.specs.declared.logs.MemoryLogs.{MemoryLogs}
-use Rattle.disk_memory.specs.Held.{read_of, MayLeave}
+use Rattle.disk_memory.specs.Held.{MayLeave}
 use Rattle.disk_memory.proofs.HeldLemmas.{only_at_same}
 use Rattle.disk_memory.proofs.disk.MemoryDiskDisk.cut.Goals as goal
 

@@ -1,7 +1,7 @@
-use Rattle.std.proofs.Common.{◌≡◌, ℕ, List, length, sym, subst}
+use Rattle.std.proofs.Common.{length, sym, subst}
 use Rattle.disk_model.specs.Changes.{OnlyAt}
-use Rattle.disk_model.proofs.LogsLemmas.{torn_same, cut_same}
-use Rattle.disk_model.specs.Logs.{Torn, MayCut}
+use Rattle.disk_model.proofs.LogsLemmas.{torn_same}
+use Rattle.disk_model.specs.Logs.{Torn}
 use Rattle.disk_memory.specs.declared.logs.MemoryLogs.{MemoryLogs}
 use Rattle.disk_memory.specs.Held.{read_of, MayLeave}
 use Rattle.disk_memory.proofs.HeldLemmas.{only_at_same}
@@ -12,7 +12,7 @@ returns-in-Stopped-clause-broken c =
     let logs = c.args.self.now.logs.logs.items in
     let step = Torn c.args.place (length c.args.bytes.now) in
     subst (λ (l : MemoryLogs). OnlyAt c.args.file step (read_of logs) (read_of l.logs.items)) (sym c.fail-in-Stopped.ensures.same)
-        (only_at_same c.args.file step (read_of logs) (torn_same c.args.place (length c.args.bytes.now)))
+    (only_at_same c.args.file step (read_of logs) (torn_same c.args.place (length c.args.bytes.now)))
 
 pub returns-in-Stopped-clause-crash : goal.returns-in-Stopped-clause-crash
 returns-in-Stopped-clause-crash c image may =

@@ -1,10 +1,10 @@
-use Rattle.std.proofs.Common.{rules, ◌≡◌, ◌++◌, ◌∷◌, [], ℕ, List, length, take, drop, refl, sym, ◌∙◌, ap, subst, arith}
+use Rattle.std.proofs.Common.{rules, ◌≡◌, ◌++◌, ◌∷◌, [], take, drop, refl, arith}
 use Rattle.std.proofs.lemmas.List.{take-append-drop}
 use Rattle.std.proofs.lemmas.Grind.{common_steps}
-use Rattle.disk_model.specs.Logs.{Torn, MayCut}
-use Rattle.disk_memory.specs.declared.change.Change.TheVariants.{Wrote, Cut, MissedWrite, MissedCut}
-use Rattle.disk_model.proofs.LogsLemmas.{torn_same, cut_same}
-use Rattle.disk_memory.proofs.ChangesLemmas.{same_becomes, more_becomes, redone_more, undone_more, redo_write, undo_write, makes_write}
+use Rattle.disk_model.specs.Logs.{MayCut}
+use Rattle.disk_memory.specs.declared.change.Change.TheVariants.{Cut}
+use Rattle.disk_model.proofs.LogsLemmas.{cut_same}
+use Rattle.disk_memory.proofs.ChangesLemmas.{same_becomes, more_becomes, redone_more, undone_more}
 use Rattle.disk_memory.proofs.log.MemoryLog.cut.Goals as goal
 
 pub returns-in_err-lost-clause-crash : goal.returns-in_err-lost-clause-crash

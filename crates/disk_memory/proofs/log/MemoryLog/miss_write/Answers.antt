@@ -1,9 +1,8 @@
-use Rattle.std.proofs.Common.{rules, ◌≡◌, ◌++◌, ◌∷◌, [], ℕ, List, length, take, drop, refl, sym, ◌∙◌, ap, subst, arith}
-use Rattle.std.proofs.lemmas.Grind.{common_steps}
-use Rattle.disk_model.specs.Logs.{Torn, MayCut}
-use Rattle.disk_memory.specs.declared.change.Change.TheVariants.{Wrote, Cut, MissedWrite, MissedCut}
-use Rattle.disk_model.proofs.LogsLemmas.{torn_same, cut_same}
-use Rattle.disk_memory.proofs.ChangesLemmas.{same_becomes, more_becomes, redone_more, undone_more, redo_write, undo_write, makes_write}
+use Rattle.std.proofs.Common.{rules, ◌≡◌, ◌++◌, ◌∷◌, [], ℕ, List, length, refl, subst}
+use Rattle.disk_model.specs.Logs.{Torn}
+use Rattle.disk_memory.specs.declared.change.Change.TheVariants.{MissedWrite}
+use Rattle.disk_model.proofs.LogsLemmas.{torn_same}
+use Rattle.disk_memory.proofs.ChangesLemmas.{same_becomes, more_becomes, redone_more, undone_more}
 use Rattle.disk_memory.proofs.log.MemoryLog.miss_write.Goals as goal
 
 pub returns-in_err-bytes-clause-crash : goal.returns-in_err-bytes-clause-crash
@@ -34,4 +33,4 @@ returns-clause-crash c =
     let more : c.push_reserved.new.self.items ≡ s.pending.items ++ change ∷ [] = cc in
     let copied : c.in_ok-bytes.bytes.items ≡ c.args.bytes.now = search rules in
     more_becomes (Torn c.args.place (length c.args.bytes.now)) s.pending.items c.push_reserved.new.self.items change s.sure.value.items more
-        (λ old new made. subst (λ (bytes : List ℕ). Torn c.args.place (length bytes) old new) copied made)
+    (λ old new made. subst (λ (bytes : List ℕ). Torn c.args.place (length bytes) old new) copied made)

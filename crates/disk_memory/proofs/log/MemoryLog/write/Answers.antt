@@ -1,8 +1,6 @@
-use Rattle.std.proofs.Common.{rules, ◌^◌, ◌≤◌, ◌≡◌, ◌++◌, ◌∷◌, [], ℕ, List, length, take, drop, refl, sym, ◌∙◌, ap, subst, arith}
-use Rattle.std.proofs.lemmas.Grind.{common_steps}
-use Rattle.disk_model.specs.Logs.{Torn, MayCut, written_at}
-use Rattle.disk_memory.specs.declared.change.Change.TheVariants.{Wrote, Cut, MissedWrite, MissedCut}
-use Rattle.disk_model.proofs.LogsLemmas.{torn_same, cut_same}
+use Rattle.std.proofs.Common.{◌^◌, ◌≤◌, ◌≡◌, ◌++◌, ◌∷◌, [], ℕ, List, length, refl, sym, ◌∙◌, ap, subst, arith}
+use Rattle.disk_model.specs.Logs.{Torn, written_at}
+use Rattle.disk_model.proofs.LogsLemmas.{torn_same}
 use Rattle.disk_memory.proofs.ChangesLemmas.{same_becomes, more_becomes, redone_more, undone_more, redo_write, undo_write, makes_write, written_short}
 use Rattle.disk_memory.specs.Changes.{IsWrite}
 use Rattle.disk_memory.proofs.log.MemoryLog.write.Goals as goal
@@ -42,4 +40,4 @@ returns-clause-crash c =
     let more : c.push_reserved.new.self.items ≡ s.pending.items ++ c.in_ok-change.change ∷ [] = cc in
     let is : IsWrite c.args.place c.args.bytes.now s.content.items c.in_ok-change.change = subst (λ (l : List ℕ). IsWrite c.args.place c.args.bytes.now l c.in_ok-change.change) c.deref.ensures.value c.in_ok-change.ensures in
     more_becomes (Torn c.args.place (length c.args.bytes.now)) s.pending.items c.push_reserved.new.self.items c.in_ok-change.change s.sure.value.items more
-        (makes_write c.args.place c.args.bytes.now s.content.items c.in_ok-change.change is)
+    (makes_write c.args.place c.args.bytes.now s.content.items c.in_ok-change.change is)

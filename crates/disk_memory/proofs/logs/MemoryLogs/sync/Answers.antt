@@ -1,12 +1,9 @@
-use Rattle.std.proofs.Common.{rules, ◌≡◌, ◌<◌, ◌++◌, ◌∷◌, [], ℕ, List, length, Some, refl, sym, ◌∙◌, ap, subst, arith, Vec}
+use Rattle.std.proofs.Common.{◌≡◌, ◌<◌, length, Some, ap, arith, Vec}
 use Rattle.std.specs.declared.alloc.Global.{Global}
 use Rattle.disk_memory.specs.declared.log.MemoryLog.{MemoryLog}
 use Rattle.std.specs.Prelude.{slice_get}
-use Rattle.disk_model.proofs.LogsLemmas.{torn_same, cut_same}
 use Rattle.disk_model.specs.Changes.{Any}
-use Rattle.disk_model.specs.Logs.{Torn, MayCut, Writes, Cuts}
-use Rattle.disk_memory.proofs.HeldLemmas.{get_here, crash_at, time_at, time_same, read_at, read_same, steps_at, only_at_same, steps_same, settles_at}
-use Rattle.disk_memory.proofs.ResultLemmas.{on_ok, on_err, always_on_err}
+use Rattle.disk_memory.proofs.HeldLemmas.{get_here, read_same, steps_at, steps_same}
 use Rattle.disk_memory.proofs.logs.MemoryLogs.sync.Goals as goal
 use Rattle.disk_memory.specs.Changes.{redone}
 use Rattle.disk_memory.specs.Laws.{may_read}
@@ -33,4 +30,4 @@ returns-clause-steps c =
     let within : c.args.file < length logs = omega (arith, c.requires, s.all, s.logs.ok.0) in
     let here : slice_get logs c.args.file ≡ Some log = get_here logs c.args.file log within c.index_mut.ensures.value in
     steps_at s.past.items c.push.new.self.items c.of.result logs c.args.file log c.sync.new.self Any c.in_ok-push.ensures.items (ap (λ (v : Vec MemoryLog Global). v.items) c.of.ensures) within here
-        (λ new may. (redone log.pending.items log.sure.value.items, may_read log.pending.items log.sure.value.items, tt))
+    (λ new may. (redone log.pending.items log.sure.value.items, may_read log.pending.items log.sure.value.items, tt))

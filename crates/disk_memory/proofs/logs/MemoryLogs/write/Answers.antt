@@ -1,11 +1,10 @@
-use Rattle.std.proofs.Common.{rules, ◌≡◌, ◌<◌, ◌++◌, ◌∷◌, [], ℕ, List, length, Some, refl, sym, ◌∙◌, ap, subst, arith, Vec}
+use Rattle.std.proofs.Common.{◌≡◌, ◌<◌, ℕ, List, length, Some, sym, ap, subst, arith, Vec}
 use Rattle.std.specs.declared.alloc.Global.{Global}
 use Rattle.disk_memory.specs.declared.log.MemoryLog.{MemoryLog}
 use Rattle.std.specs.Prelude.{slice_get}
-use Rattle.disk_model.proofs.LogsLemmas.{torn_same, cut_same}
-use Rattle.disk_model.specs.Changes.{Any}
-use Rattle.disk_model.specs.Logs.{Torn, MayCut, Writes, Cuts}
-use Rattle.disk_memory.proofs.HeldLemmas.{get_here, crash_at, time_at, time_same, read_at, read_same, steps_at, only_at_same, steps_same, settles_at}
+use Rattle.disk_model.proofs.LogsLemmas.{torn_same}
+use Rattle.disk_model.specs.Logs.{Torn, Writes}
+use Rattle.disk_memory.proofs.HeldLemmas.{get_here, read_at, steps_at, only_at_same, steps_same}
 use Rattle.disk_memory.proofs.ResultLemmas.{on_ok, on_err, always_on_err}
 use Rattle.disk_memory.proofs.logs.MemoryLogs.write.Goals as goal
 

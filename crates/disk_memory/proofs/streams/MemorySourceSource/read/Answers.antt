@@ -1,4 +1,4 @@
-use Rattle.std.proofs.Common.{rules, ◌≡◌, ◌≤◌, ◌<◌, [], drop, length, arith}
+use Rattle.std.proofs.Common.{arith}
 use Rattle.std.proofs.lemmas.Grind.{common_steps}
 use Rattle.disk_memory.proofs.Pieces.{next_bytes, none_left}
 use Rattle.disk_memory.proofs.streams.MemorySourceSource.read.Goals as goal
