@@ -1,0 +1,5 @@
+pub mod ChangesLemmas
+pub mod HeldLemmas
+pub mod Pieces
+pub mod ResultLemmas
+pub mod SeatsLemmas

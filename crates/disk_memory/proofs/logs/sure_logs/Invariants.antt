@@ -1,0 +1,5 @@
+use Rattle.disk_memory.specs.Held.{AreSure}
+use Rattle.disk_memory.proofs.logs.sure_logs.Given as goal
+
+abbrev pub invariant-logs : goal.invariant-logs
+invariant-logs l = AreSure l.logs.items l.yielded

@@ -1,0 +1,37 @@
+-- The laws of a disk, for logs in memory.
+use Rattle.std.specs.Prelude.{ℕ, List, [], ◌∷◌, length, drop, slice_get, Option, Some, None, Vec, refl}
+use Rattle.std.proofs.Common.{inl, inr, ⊎_elim, arith, sym, subst}
+use Rattle.std.proofs.Math.ListN.{drop_of_length-le}
+use Rattle.std.specs.declared.alloc.Global.{Global}
+use Rattle.std.specs.declared.snapshot.Snapshot.{Snapshot}
+use Rattle.disk_model.specs.Logs.{Image}
+use Rattle.disk_memory.specs.declared.change.Change.{Change}
+use Rattle.disk_memory.specs.declared.change.Change.TheVariants.{Wrote, Cut, MissedWrite, MissedCut}
+use Rattle.disk_memory.specs.declared.log.MemoryLog.{MemoryLog}
+use Rattle.disk_memory.specs.Changes.{redo, redone, MayMake, MayHold}
+use Rattle.disk_memory.specs.Held.{content_of, read_of, LeavesOf, MayLeave, MightLeave, LeftSince}
+use Rattle.disk_model.proofs.LogsLemmas.{torn_same, whole_torn}
+
+may_redo : (change : Change) (old : List ℕ) → MayMake change old (redo change old)
+may_redo (Wrote place bytes over) old = whole_torn old bytes.items place
+may_redo (Cut len lost) old = inl refl
+may_redo (MissedWrite place bytes) old = torn_same place (length bytes.items) old
+may_redo (MissedCut len) old = inr refl
+
+pub may_read : (changes : List Change) (sure : List ℕ) → MayHold changes sure (redone changes sure)
+may_read [] sure = refl
+may_read (change ∷ changes) sure = (redo change sure, may_redo change sure, may_read changes (redo change sure))
+
+reads_log : (log : Option MemoryLog) → LeavesOf log (content_of log)
+reads_log None = refl
+reads_log (Some log) = subst (λ (bytes : List ℕ). MayHold log.pending.items log.sure.value.items bytes) (sym log.redone) (may_read log.pending.items log.sure.value.items)
+
+pub reads_now_of : (logs : List MemoryLog) → MayLeave logs (read_of logs)
+reads_now_of logs file = reads_log (slice_get logs file)
+
+pub only_now_of : (past : List (Snapshot (Vec MemoryLog Global))) (logs : List MemoryLog) (image : Image) → LeftSince past logs (length past) image → MayLeave logs image
+only_now_of past logs image left =
+    ⊎_elim (λ (now : MayLeave logs image). now) (λ (before : MightLeave (drop (length past) past) image). absurd (subst (λ (ps : List (Snapshot (Vec MemoryLog Global))). MightLeave ps image) (drop_of_length-le past {i = length past} (omega arith)) before)) left
+
+pub counts_now_of : (past : List (Snapshot (Vec MemoryLog Global))) (logs : List MemoryLog) (t : ℕ) (image : Image) → MayLeave logs image → LeftSince past logs t image
+counts_now_of past logs t image now = inl now

@@ -1,0 +1,24 @@
+// What was done to a log since its last sync.
+
+/// A change that no sync has made sure of yet. What it replaced stands beside it, so that it can be taken back.
+#[derive(Debug, Drop)]
+pub enum Change {
+    Wrote {
+        place: u64,
+        bytes: Vec<u8>,
+        over: Vec<u8>,
+    },
+    Cut {
+        len: u64,
+        lost: Vec<u8>,
+    },
+    /// A write that failed. It isn't read, and a crash may leave any part of it.
+    MissedWrite {
+        place: u64,
+        bytes: Vec<u8>,
+    },
+    /// A cut that failed. It isn't read, and a crash may leave it done.
+    MissedCut {
+        len: u64,
+    },
+}

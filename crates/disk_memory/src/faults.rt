@@ -1,0 +1,54 @@
+// The calls and the faults of one object.
+ghost use Rattle.std.specs.Prelude.{◌≡◌, ◌≤◌};
+ghost use Rattle.std.specs.Bool.{OnTrue, OnFalse};
+ghost use Rattle.disk_model.specs.Causes.{Rose};
+
+use crate::plan::{Plan, Verdict};
+use disk_model::Failed;
+
+/// Counts the calls and the faults of one object, by a plan of its own.
+#[derive(Drop)]
+pub struct Faults {
+    pub plan: Plan,
+    pub calls: u64,
+    pub count: u64,
+}
+
+impl Faults {
+    /// No call was made yet.
+    pub fn new(plan: Plan) -> Self
+        ensures { result.count ≡ 0 }
+    {
+        Faults {
+            plan,
+            calls: 0,
+            count: 0,
+        }
+    }
+
+    /// Counts a call. A false answer has counted a fault.
+    pub fn lets(&mut self) -> bool
+        ensures goes { OnTrue result (self.new.count ≡ self.old.count) }
+        ensures fails { OnFalse result (Rose self.old.count self.new.count) }
+        ensures later { self.old.count ≤ self.new.count }
+    {
+        let call = self.calls;
+        self.calls = self.calls.saturating_add(1);
+        match self.plan.verdict(call) {
+            Verdict::Goes => true,
+            Verdict::Fails | Verdict::Stopped => {
+                self.fail();
+                false
+            }
+        }
+    }
+
+    /// Counts a fault.
+    pub fn fail(&mut self) -> Failed
+        ensures rose { Rose self.old.count self.new.count }
+        ensures later { self.old.count ≤ self.new.count }
+    {
+        self.count = self.count.saturating_add(1);
+        Failed
+    }
+}

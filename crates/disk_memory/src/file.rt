@@ -1,0 +1,33 @@
+// A sealed file in memory.
+ghost use Rattle.std.specs.Prelude.{length, Some, refl};
+
+use disk_model::SealedFile;
+
+/// A sealed file. Its bytes stay in memory for good, so that whoever holds the value can read it, and `admit` can keep
+/// it without taking memory.
+#[derive(Clone, Copy)]
+pub struct MemoryFile {
+    pub number: u64,
+    pub mark: u64,
+    pub bytes: &'static [u8],
+}
+
+impl SealedFile for MemoryFile {
+    ghost number = { λ f. f.number };
+
+    ghost mark = { λ f. f.mark };
+
+    ghost size = { λ f. length f.bytes.now };
+
+    ghost bytes = { λ f. Some f.bytes.now };
+
+    fn number(&self) -> u64 {
+        self.number
+    }
+
+    fn len(&self) -> u64 {
+        self.bytes.len() as u64
+    }
+
+    ghost fits = { λ f. refl };
+}

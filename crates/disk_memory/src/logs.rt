@@ -1,0 +1,110 @@
+// The logs of a disk in memory, and what they were before each change.
+ghost use Rattle.std.specs.Prelude.{◌≡◌, ◌≤◌, ◌<◌, ◌+◌, ◌^◌, length, vec_len, OnOk, OnErr, IfOk, Some, ℕ};
+ghost use Rattle.disk_model.specs.Changes.{Any, OnlyAt};
+ghost use Rattle.disk_model.specs.Logs.{Torn, MayCut, Writes, Cuts, Settled};
+ghost use Rattle.disk_model.specs.declared.disk.TheConstants.{LOG_COUNT};
+ghost use Rattle.disk_memory.specs.Held.{read_of, AreSure, MayLeave, Steps};
+
+use crate::log::MemoryLog;
+use disk_model::LOG_COUNT;
+use std::alloc::{AllocError, Global};
+use std::snapshot::Snapshot;
+
+// How long a log may be.
+const LONGEST: u64 = 1 << 62;
+
+/// The logs, and what they were before each change, which has no bytes: it is for clauses alone.
+#[derive(Drop)]
+pub struct MemoryLogs {
+    pub alloc: Global,
+    pub logs: Vec<MemoryLog>,
+    pub past: Vec<Snapshot<Vec<MemoryLog>>>,
+    ghost all: { vec_len logs ≡ LOG_COUNT },
+}
+
+impl MemoryLogs {
+    /// Logs that hold these bytes, all of them on the disk. A log past 2^62 bytes is refused as want of memory.
+    pub fn new(alloc: Global, contents: Vec<Vec<u8>>) -> Result<Self, AllocError>
+        requires { vec_len contents ≡ LOG_COUNT }
+        ensures { IfOk result (λ all. AreSure all.logs.items contents.items) }
+    {
+        let logs = sure_logs(alloc, contents)?;
+        Ok(MemoryLogs {
+            alloc,
+            logs,
+            past: Vec::new(alloc),
+        })
+    }
+
+    /// Writes over what is there, and past the end. Where it fails, what is read stays.
+    pub fn write(&mut self, file: u8, place: u64, bytes: &[u8]) -> Result<(), AllocError>
+        requires file { file < LOG_COUNT }
+        requires place { place ≤ length (read_of self.old.logs.items file) }
+        requires end { place + length bytes.now ≤ 2 ^ 62 }
+        ensures ok { OnOk result (OnlyAt file (Writes place bytes.now) (read_of self.old.logs.items) (read_of self.new.logs.items)) }
+        ensures err { OnErr result (OnlyAt file (Torn place (length bytes.now)) (read_of self.old.logs.items) (read_of self.new.logs.items)) }
+        ensures steps { Steps file (Torn place (length bytes.now)) self.old.past.items self.old.logs.items self.new.past.items self.new.logs.items }
+    {
+        self.past.push(Snapshot::of(&self.logs))?;
+        self.logs[file as usize].write(self.alloc, place, bytes)
+    }
+
+    /// Keeps a write that failed: a crash may leave any part of it.
+    pub fn miss_write(&mut self, file: u8, place: u64, bytes: &[u8]) -> Result<(), AllocError>
+        requires { file < LOG_COUNT }
+        ensures err { OnlyAt file (Torn place (length bytes.now)) (read_of self.old.logs.items) (read_of self.new.logs.items) }
+        ensures steps { Steps file (Torn place (length bytes.now)) self.old.past.items self.old.logs.items self.new.past.items self.new.logs.items }
+    {
+        self.past.push(Snapshot::of(&self.logs))?;
+        self.logs[file as usize].miss_write(self.alloc, place, bytes)
+    }
+
+    /// Cuts a log to its first `len` bytes. Where it fails, what is read stays.
+    pub fn cut(&mut self, file: u8, len: u64) -> Result<(), AllocError>
+        requires file { file < LOG_COUNT }
+        requires len { len ≤ length (read_of self.old.logs.items file) }
+        ensures ok { OnOk result (OnlyAt file (Cuts len) (read_of self.old.logs.items) (read_of self.new.logs.items)) }
+        ensures err { OnErr result (OnlyAt file (MayCut len) (read_of self.old.logs.items) (read_of self.new.logs.items)) }
+        ensures steps { Steps file (MayCut len) self.old.past.items self.old.logs.items self.new.past.items self.new.logs.items }
+    {
+        self.past.push(Snapshot::of(&self.logs))?;
+        self.logs[file as usize].cut(self.alloc, len)
+    }
+
+    /// Keeps a cut that failed: a crash may leave it done.
+    pub fn miss_cut(&mut self, file: u8, len: u64) -> Result<(), AllocError>
+        requires { file < LOG_COUNT }
+        ensures err { OnlyAt file (MayCut len) (read_of self.old.logs.items) (read_of self.new.logs.items) }
+        ensures steps { Steps file (MayCut len) self.old.past.items self.old.logs.items self.new.past.items self.new.logs.items }
+    {
+        self.past.push(Snapshot::of(&self.logs))?;
+        self.logs[file as usize].miss_cut(len)
+    }
+
+    /// Makes sure of what is read of a log.
+    pub fn sync(&mut self, file: u8) -> Result<(), AllocError>
+        requires { file < LOG_COUNT }
+        ensures settled { OnOk result (Settled file (Some (read_of self.new.logs.items)) (MayLeave self.new.logs.items)) }
+        ensures read { (other : ℕ) → read_of self.new.logs.items other ≡ read_of self.old.logs.items other }
+        ensures err { OnErr result (self.new.logs.items ≡ self.old.logs.items) }
+        ensures steps { Steps file Any self.old.past.items self.old.logs.items self.new.past.items self.new.logs.items }
+    {
+        self.past.push(Snapshot::of(&self.logs))?;
+        self.logs[file as usize].sync();
+        Ok(())
+    }
+}
+
+// Logs that hold these bytes, all of them on the disk.
+fn sure_logs(alloc: Global, contents: Vec<Vec<u8>>) -> Result<Vec<MemoryLog>, AllocError>
+    ensures { IfOk result (λ logs. AreSure logs.items contents.items) }
+{
+    let mut logs = Vec::new(alloc);
+    'logs: for content in contents {
+        if content.len() as u64 > LONGEST {
+            return Err(AllocError);
+        }
+        logs.push(MemoryLog::new(alloc, content))?;
+    }
+    Ok(logs)
+}

@@ -1,0 +1,48 @@
+// A count of calls that a disk, a yard and its builds share.
+use crate::plan::{Plan, Verdict};
+use std::alloc::{AllocError, Global};
+use std::sync::Arc;
+use std::sync::atomic::{AtomicU64, Ordering};
+
+#[derive(Drop)]
+struct Calls {
+    plan: Plan,
+    made: AtomicU64,
+}
+
+/// Counts the calls of a disk, a yard and its builds together, and says by one plan what is to become of each.
+#[derive(Drop)]
+pub struct Meter {
+    calls: Arc<Calls>,
+}
+
+impl Meter {
+    /// Nothing was called yet.
+    pub fn new(alloc: Global, plan: Plan) -> Result<Self, AllocError> {
+        let calls = Arc::new(
+            alloc,
+            Calls {
+                plan,
+                made: AtomicU64::new(0),
+            },
+        )?;
+        Ok(Meter { calls })
+    }
+
+    /// One that counts the same calls.
+    pub fn share(&self) -> Result<Self, AllocError> {
+        let calls = Arc::try_clone(&self.calls)?;
+        Ok(Meter { calls })
+    }
+
+    /// How many calls were made.
+    pub fn made(&self) -> u64 {
+        self.calls.made.load(Ordering::SeqCst)
+    }
+
+    /// Counts a call, and says what is to become of it.
+    pub fn next(&self) -> Verdict {
+        let call = self.calls.made.fetch_add(1, Ordering::SeqCst);
+        self.calls.plan.verdict(call)
+    }
+}

@@ -1,0 +1,51 @@
+// Which calls are to fail.
+ghost use Rattle.std.specs.Prelude.{◌≡◌, ◌≤◌, ◌<◌, ◌↔◌, IsTrue, IsSomeAnd, Contains, IsFalse};
+
+/// What is to become of a call.
+#[derive(Clone, Copy, Debug, PartialEq, Eq)]
+pub enum Verdict {
+    Goes,
+    Fails,
+    Stopped,
+}
+
+/// The calls that are to fail, by their ordinal from 0, and after how many calls everything stops.
+#[derive(Debug, Drop)]
+pub struct Plan {
+    pub failing: Vec<u64>,
+    pub stop: Option<u64>,
+}
+
+impl Plan {
+    /// Whether the call comes after the stop.
+    pub fn is_stopped(&self, call: u64) -> bool
+        ensures { IsTrue result ↔ IsSomeAnd self.now.stop (λ count. count ≤ call) }
+    {
+        match self.stop {
+            Some(count) => count <= call,
+            None => false,
+        }
+    }
+
+    /// Whether the call is to fail by itself.
+    pub fn is_listed(&self, call: u64) -> bool
+        ensures { IsTrue result ↔ Contains self.now.failing.items call }
+    {
+        self.failing.contains(&call)
+    }
+
+    /// What is to become of a call. The stop counts before the list.
+    pub fn verdict(&self, call: u64) -> Verdict
+        ensures stopped { result ≡ Verdict.Stopped ↔ IsSomeAnd self.now.stop (λ count. count ≤ call) }
+        ensures fails { result ≡ Verdict.Fails → Contains self.now.failing.items call }
+        ensures goes { result ≡ Verdict.Goes → Contains self.now.failing.items call → ⊥ }
+    {
+        if self.is_stopped(call) {
+            Verdict::Stopped
+        } else if self.is_listed(call) {
+            Verdict::Fails
+        } else {
+            Verdict::Goes
+        }
+    }
+}

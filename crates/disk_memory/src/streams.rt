@@ -1,0 +1,102 @@
+// A source and a sink in memory.
+ghost use Rattle.std.specs.Prelude.{◌≡◌, ◌≤◌, ◌<◌, [], drop, length, vec_len, Some};
+
+use crate::faults::Faults;
+use crate::plan::Plan;
+use disk_model::{Failed, Sink, Source};
+use std::alloc::Global;
+
+/// Bytes that are read in pieces of at most `piece`.
+#[derive(Drop)]
+pub struct MemorySource {
+    bytes: Vec<u8>,
+    at: usize,
+    piece: usize,
+    faults: Faults,
+    ghost within: { at ≤ vec_len bytes },
+    ghost some: { 0 < piece },
+}
+
+impl MemorySource {
+    /// Gives these bytes, at most `piece` of them a read.
+    pub fn new(bytes: Vec<u8>, piece: usize, plan: Plan) -> Self
+        requires { 0 < piece }
+        ensures left { ⟦<MemorySource as Source>⟧.left result ≡ Some bytes.items }
+        ensures faults { ⟦<MemorySource as Source>⟧.faults result ≡ 0 }
+    {
+        MemorySource {
+            bytes,
+            at: 0,
+            piece,
+            faults: Faults::new(plan),
+        }
+    }
+}
+
+impl Source for MemorySource {
+    ghost left = { λ s. Some (drop s.at s.bytes.items) };
+
+    ghost faults = { λ s. s.faults.count };
+
+    fn read(&mut self, out: &mut [u8]) -> Result<usize, Failed> {
+        if !self.faults.lets() {
+            return Err(Failed);
+        }
+        let rest = &self.bytes[self.at..];
+        let count = self.piece.min(out.len()).min(rest.len());
+        out[..count].copy_from_slice(&rest[..count]);
+        self.at += count;
+        Ok(count)
+    }
+
+    fn faults(&self) -> u64 {
+        self.faults.count
+    }
+}
+
+/// Keeps the bytes that are written. Want of memory is a fault.
+#[derive(Drop)]
+pub struct MemorySink {
+    bytes: Vec<u8>,
+    faults: Faults,
+}
+
+impl MemorySink {
+    /// Nothing was written yet.
+    pub fn new(alloc: Global, plan: Plan) -> Self
+        ensures written { ⟦<MemorySink as Sink>⟧.written result ≡ Some [] }
+        ensures faults { ⟦<MemorySink as Sink>⟧.faults result ≡ 0 }
+    {
+        MemorySink {
+            bytes: Vec::new(alloc),
+            faults: Faults::new(plan),
+        }
+    }
+
+    /// What was written.
+    pub fn bytes(&self) -> &[u8]
+        ensures { ⟦<MemorySink as Sink>⟧.written self.now ≡ Some result.now }
+    {
+        &self.bytes
+    }
+}
+
+impl Sink for MemorySink {
+    ghost written = { λ s. Some s.bytes.items };
+
+    ghost faults = { λ s. s.faults.count };
+
+    fn write(&mut self, bytes: &[u8]) -> Result<(), Failed> {
+        if !self.faults.lets() {
+            return Err(Failed);
+        }
+        match self.bytes.extend_from_slice(bytes) {
+            Ok(()) => Ok(()),
+            Err(_) => Err(self.faults.fail()),
+        }
+    }
+
+    fn faults(&self) -> u64 {
+        self.faults.count
+    }
+}

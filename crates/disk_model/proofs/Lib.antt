@@ -1,0 +1,2 @@
+pub mod LogsLemmas
+pub mod MomentsLemmas
