@@ -1,0 +1,4 @@
+pub mod FitLemmas
+pub mod NearLemmas
+pub mod PlaceLemmas
+pub mod ScalarLemmas

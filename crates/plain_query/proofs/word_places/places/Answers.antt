@@ -1,0 +1,7 @@
+use Rattle.std.proofs.Common.{rules, arith, sym, ap, ◌∙◌}
+use Rattle.std.proofs.lemmas.Grind.{common_steps}
+use Rattle.plain_query.proofs.PlaceLemmas.{filter_range_push}
+use Rattle.plain_query.proofs.word_places.places.Goals as goal
+
+pub loop-j-preserved : goal.loop-j-preserved
+loop-j-preserved c = grind (arith, common_steps, filter_range_push)

@@ -1,0 +1,31 @@
+//! Whether a document satisfies a query, and the two tests of a query, computed as they are defined: slowly, and
+//! plain to read. Tests compare every faster way with it.
+#![tactic(auto)]
+
+mod blindness;
+mod bounding;
+mod directories;
+mod leaves;
+mod matching;
+mod meanings;
+mod nearness;
+mod scalar_list;
+mod string_list;
+#[cfg(test)]
+mod tests;
+mod text_bounding;
+mod text_starts;
+mod values;
+mod word_places;
+
+pub use blindness::is_blind;
+pub use bounding::bounds;
+pub use directories::in_directory;
+pub use matching::matches;
+pub use meanings::meaning;
+pub use nearness::is_near;
+pub use scalar_list::scalars;
+pub use string_list::strings;
+pub use text_starts::starts_among;
+pub use values::{in_range, scalar_equals};
+pub use word_places::{places, words_seen};

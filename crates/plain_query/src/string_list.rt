@@ -1,0 +1,94 @@
+ghost use Rattle.std.specs.Prelude.{◌≡◌, ◌+◌, ◌<◌, ◌^◌, ◌++◌, [], ◌∷◌, IfOk, OnOk, length, sum_by};
+ghost use Rattle.std.specs.List.{filter_map};
+ghost use Rattle.std.specs.Option.{option_to_list};
+ghost use Rattle.doc_meaning.specs.Strings.{strings, scalars, with_bases, text_of};
+ghost use Rattle.doc_meaning.specs.Words.{plain};
+ghost use Rattle.doc_model.specs.Tree.{size};
+
+use crate::scalars;
+use doc_meaning::StringNode;
+use doc_model::{Node, Scalar, Text};
+use doc_tokens::plain_words;
+use sqlite_items::Items;
+use std::alloc::{AllocError, Global};
+
+/// The text values of a tree in document order, each with its owner and its base.
+pub fn strings(alloc: Global, root: &Node) -> Result<Items<StringNode>, AllocError>
+    requires { size root.now < 2 ^ 64 }
+    ensures { IfOk result (λ found. found ≡ strings root.now) }
+{
+    let found = scalars(alloc, root)?;
+    let texts = texts_of(alloc, found.as_slice())?;
+    with_bases(alloc, texts.as_slice())
+}
+
+/// The texts among scalars, each with its owner.
+fn texts_of(
+    alloc: Global,
+    scalars: &[(Option<Text>, Scalar)],
+) -> Result<Items<(Option<Text>, Text)>, AllocError>
+    ensures { IfOk result (λ texts. texts ≡ filter_map text_of scalars.now) }
+{
+    let mut out = Items::new(alloc);
+    for scalar in scalars {
+        add_text(alloc, scalar, &mut out)?;
+    }
+    Ok(out)
+}
+
+fn add_text(
+    alloc: Global,
+    scalar: &(Option<Text>, Scalar),
+    out: &mut Items<(Option<Text>, Text)>,
+) -> Result<(), AllocError>
+    ensures { OnOk result (out.new ≡ out.old ++ option_to_list (text_of scalar.now)) }
+{
+    match &scalar.1 {
+        Scalar::Text(text) => out.push((copy_name(alloc, &scalar.0)?, text.copy(alloc)?)),
+        _ => Ok(()),
+    }
+}
+
+pub(crate) fn copy_name(alloc: Global, name: &Option<Text>) -> Result<Option<Text>, AllocError>
+    ensures { IfOk result (λ n. n ≡ name.now) }
+{
+    match name {
+        None => Ok(None),
+        Some(name) => Ok(Some(name.copy(alloc)?)),
+    }
+}
+
+fn with_bases(
+    alloc: Global,
+    texts: &[(Option<Text>, Text)],
+) -> Result<Items<StringNode>, AllocError>
+    requires { sum_by (λ s. length (plain s.1)) texts.now < 2 ^ 64 }
+    ensures { IfOk result (λ found. found ≡ with_bases 0 texts.now) }
+{
+    let mut out = Items::new(alloc);
+    let mut base: u64 = 0;
+    for text in texts {
+        base = add_string(alloc, text, base, &mut out)?;
+    }
+    Ok(out)
+}
+
+/// Adds a text that has this base, and answers the base of the next one.
+fn add_string(
+    alloc: Global,
+    text: &(Option<Text>, Text),
+    base: u64,
+    out: &mut Items<StringNode>,
+) -> Result<u64, AllocError>
+    requires { base + length (plain text.now.1) < 2 ^ 64 }
+    ensures next { IfOk result (λ n. n ≡ base + length (plain text.now.1)) }
+    ensures added { OnOk result (out.new ≡ out.old ++ record { owner = text.now.0; text = text.now.1; base = base } ∷ []) }
+{
+    let count = plain_words(alloc, text.1.as_str())?.len() as u64;
+    out.push(StringNode {
+        owner: copy_name(alloc, &text.0)?,
+        text: text.1.copy(alloc)?,
+        base,
+    })?;
+    Ok(base + count)
+}
