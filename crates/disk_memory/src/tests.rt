@@ -2,8 +2,7 @@
 ghost use Rattle.std.specs.Prelude.{◌≡◌, ◌<◌, length, IfOk};
 
 use crate::{
-    MemoryDisk, MemoryFile, MemoryPort, MemorySink, MemorySource, Meter, Plan, blank_logs,
-    blank_store,
+    MemoryDisk, MemoryPort, MemorySink, MemorySource, Meter, Plan, blank_logs, blank_store,
 };
 use disk_model::{Build, Disk, Failed, Port, Sink, Source, Store, Yard};
 use std::alloc::{AllocError, Global};
@@ -127,9 +126,6 @@ fn a_removed_file_stays_readable(rt: HostRuntime) -> Result<(), Fail> {
     build.append(b"some ")?;
     build.append(b"bytes")?;
     let file = build.seal()?;
-    assert!(rt; yard.open(7)?.is_none());
-    yard.admit(&file);
-    assert_eq!(rt; yard.open(7)?.map_or(0, |f: MemoryFile| f.bytes.len()), 10);
     yard.remove(7)?;
     assert!(rt; yard.open(7)?.is_none());
     let mut port = MemoryPort::new(smooth(alloc));
