@@ -3,6 +3,8 @@ ghost use Rattle.std.specs.FinMap as map;
 ghost use Rattle.std.specs.Option.{option_copied};
 ghost use Rattle.doc_meaning.specs.History.{after_op, after_ops, after_entry};
 
+mod answers;
+
 use doc_meaning::Version;
 use doc_model::{Document, Entry, Op, Text};
 use std::alloc::{AllocError, Global};

@@ -7,6 +7,9 @@ mod database;
 mod forgets;
 mod history;
 mod reads;
+mod searches;
+#[cfg(test)]
+mod tests;
 
 pub use database::Database;
 pub use history::History;

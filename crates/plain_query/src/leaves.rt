@@ -1,6 +1,6 @@
 ghost use Rattle.std.specs.Prelude.{◌≡◌, ◌++◌, IfOk, OnOk, map, filter, Some};
 ghost use Rattle.std.specs.List.{list_any};
-ghost use Rattle.doc_meaning.specs.Meaning.{some_pair, share_name, in_directory};
+ghost use Rattle.doc_meaning.specs.Meaning.{some_pair, have_common, in_directory};
 ghost use Rattle.doc_meaning.specs.Strings.{scalars_of, scalars, is_owned};
 ghost use Rattle.doc_meaning.specs.Values.{scalar_equals, in_range};
 
@@ -100,8 +100,8 @@ fn in_range_of_some(op: Compare, scalar: &Scalar, wanted: &[Scalar]) -> bool
 }
 
 /// Whether some name is one of the names.
-pub(crate) fn share_name(names: &[Text], wanted: &[Text]) -> bool
-    ensures { result ≡ share_name names.now wanted.now }
+pub(crate) fn have_common(names: &[Text], wanted: &[Text]) -> bool
+    ensures { result ≡ have_common names.now wanted.now }
 {
     wanted.iter().any(|name| is_among(names, name.as_str()))
 }

@@ -5,7 +5,7 @@ ghost use Rattle.doc_meaning.specs.Meaning.{meaning, plainly, from_starts, word_
 ghost use Rattle.doc_meaning.specs.Near.{is_near};
 ghost use Rattle.doc_meaning.specs.Strings.{strings};
 
-use crate::leaves::{in_some_directory, scalars_of, share_name, some_in_range, some_value};
+use crate::leaves::{have_common, in_some_directory, scalars_of, some_in_range, some_value};
 use crate::text_starts::{is_among, word_starts};
 use crate::{is_near, strings};
 use doc_meaning::Meaning;
@@ -73,7 +73,7 @@ pub fn meaning(alloc: Global, query: &Query, document: &Document) -> Result<Mean
         }
         Query::Collection(names) => Ok(plainly(
             alloc,
-            share_name(document.collections().as_slice(), names.as_slice()),
+            have_common(document.collections().as_slice(), names.as_slice()),
         )),
         Query::Directory { uris, infinite } => Ok(plainly(
             alloc,
