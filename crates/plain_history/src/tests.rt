@@ -2,7 +2,7 @@ ghost use Rattle.std.specs.Prelude.{IfOk, IsTrue};
 ghost use Rattle.doc_model.specs.Operations.{removes_uri};
 
 use crate::History;
-use doc_meaning::{CommitReply, ForgetReply, ReadReply};
+use doc_meaning::{CommitReply, ForgetReply, ReadReply, Version};
 use doc_model::{
     Case, Document, Entry, Indexes, Node, Op, Ops, Query, Settings, Text, Texts, is_uri,
 };
@@ -60,10 +60,19 @@ fn commit(alloc: Global, history: &mut History, op: Op) -> Result<CommitReply, F
     list.push(op)?;
     let ops = Ops::new(list)?;
     let reply = history.commit_reply(alloc, &ops, false)?;
-    if let CommitReply::Entered { .. } = reply {
+    if let CommitReply::Entered { .. } = &reply {
         history.push(Entry::Commit(ops))?;
     }
     Ok(reply)
+}
+
+/// Puts `{"t":TEXT}`, and tells the timestamp, 0 where it is refused.
+fn put_text(alloc: Global, history: &mut History, uri: &str, text: &str) -> Result<u64, Fail> {
+    let op = put(alloc, uri, &[("t", text)], None)?;
+    match &commit(alloc, history, op)? {
+        CommitReply::Entered { at } => Ok(*at),
+        _ => Ok(0),
+    }
 }
 
 fn word(alloc: Global, text: &str) -> Result<Query, AllocError> {
@@ -75,18 +84,7 @@ fn word(alloc: Global, text: &str) -> Result<Query, AllocError> {
     })
 }
 
-fn is_entered(reply: CommitReply, wanted: u64) -> bool {
-    match reply {
-        CommitReply::Entered { at } => at == wanted,
-        _ => false,
-    }
-}
-
-/// Whether these URIs were found, in this order.
-fn finds(reply: ReadReply<Texts>, wanted: &[&str]) -> bool {
-    let ReadReply::Found(found) = reply else {
-        return false;
-    };
+fn is_list(found: &Texts, wanted: &[&str]) -> bool {
     let found = found.as_slice();
     if found.len() != wanted.len() {
         return false;
@@ -99,44 +97,63 @@ fn finds(reply: ReadReply<Texts>, wanted: &[&str]) -> bool {
     true
 }
 
+/// Whether a search of a text at a timestamp finds these URIs, in this order.
+fn finds(
+    alloc: Global,
+    history: &History,
+    at: u64,
+    text: &str,
+    wanted: &[&str],
+) -> Result<bool, Fail> {
+    let query = word(alloc, text)?;
+    match &history.search_reply(alloc, at, &query)? {
+        ReadReply::Found(found) => Ok(is_list(found, wanted)),
+        _ => Ok(false),
+    }
+}
+
 #[test]
 fn searches_tell_case_apart_where_the_text_has_a_capital(rt: HostRuntime) -> Result<(), Fail> {
     let alloc = rt.alloc();
     let mut h = empty(alloc);
-    let first = put(alloc, "/1.json", &[("t", "fox")], None)?;
-    assert!(rt; is_entered(commit(alloc, &mut h, first)?, 1));
-    let second = put(alloc, "/2.json", &[("t", "Fox")], None)?;
-    assert!(rt; is_entered(commit(alloc, &mut h, second)?, 2));
-    let capital = h.search_reply(alloc, 2, &word(alloc, "Fox")?)?;
-    assert!(rt; finds(capital, &["/2.json"]));
-    let small = h.search_reply(alloc, 2, &word(alloc, "fox")?)?;
-    assert!(rt; finds(small, &["/1.json", "/2.json"]));
+    assert_eq!(rt; put_text(alloc, &mut h, "/1.json", "fox")?, 1);
+    assert_eq!(rt; put_text(alloc, &mut h, "/2.json", "Fox")?, 2);
+    assert!(rt; finds(alloc, &h, 2, "Fox", &["/2.json"])?);
+    assert!(rt; finds(alloc, &h, 2, "fox", &["/1.json", "/2.json"])?);
     Ok(())
+}
+
+/// `/v.json` with `one`, then with `two`, then removed.
+fn one_two_gone(alloc: Global) -> Result<History, Fail> {
+    let mut h = empty(alloc);
+    put_text(alloc, &mut h, "/v.json", "one")?;
+    put_text(alloc, &mut h, "/v.json", "two")?;
+    let gone = remove(alloc, "/v.json", None)?;
+    commit(alloc, &mut h, gone)?;
+    Ok(h)
 }
 
 #[test]
 fn each_timestamp_keeps_its_database(rt: HostRuntime) -> Result<(), Fail> {
     let alloc = rt.alloc();
-    let mut h = empty(alloc);
-    let one = put(alloc, "/v.json", &[("t", "one")], None)?;
-    assert!(rt; is_entered(commit(alloc, &mut h, one)?, 1));
-    let two = put(alloc, "/v.json", &[("t", "two")], None)?;
-    assert!(rt; is_entered(commit(alloc, &mut h, two)?, 2));
-    let gone = remove(alloc, "/v.json", None)?;
-    assert!(rt; is_entered(commit(alloc, &mut h, gone)?, 3));
-    let (one, two) = (word(alloc, "one")?, word(alloc, "two")?);
-    assert!(rt; finds(h.search_reply(alloc, 1, &one)?, &["/v.json"]));
-    assert!(rt; finds(h.search_reply(alloc, 2, &one)?, &[]));
-    assert!(rt; finds(h.search_reply(alloc, 2, &two)?, &["/v.json"]));
-    assert!(rt; finds(h.search_reply(alloc, 3, &two)?, &[]));
-    let ahead = h.search_reply(alloc, 4, &two)?;
-    assert!(rt; matches!(ahead, ReadReply::New { asked: 4, front: 3 }));
+    let h = one_two_gone(alloc)?;
+    assert!(rt; finds(alloc, &h, 1, "one", &["/v.json"])?);
+    assert!(rt; finds(alloc, &h, 2, "one", &[])?);
+    assert!(rt; finds(alloc, &h, 2, "two", &["/v.json"])?);
+    assert!(rt; finds(alloc, &h, 3, "two", &[])?);
     Ok(())
 }
 
 #[test]
-fn estimates_look_at_neighbours_alone(rt: HostRuntime) -> Result<(), Fail> {
-    let alloc = rt.alloc();
+fn nothing_is_read_above_the_front(rt: HostRuntime) -> Result<(), Fail> {
+    let h = one_two_gone(rt.alloc())?;
+    let query = word(rt.alloc(), "two")?;
+    let ahead = h.search_reply(rt.alloc(), 4, &query)?;
+    assert!(rt; matches!(&ahead, ReadReply::New { asked: 4, front: 3 }));
+    Ok(())
+}
+
+fn foxes(alloc: Global) -> Result<History, Fail> {
     let mut h = empty(alloc);
     let op = put(
         alloc,
@@ -144,29 +161,47 @@ fn estimates_look_at_neighbours_alone(rt: HostRuntime) -> Result<(), Fail> {
         &[("a", "red fox"), ("b", "fox ran")],
         None,
     )?;
-    assert!(rt; is_entered(commit(alloc, &mut h, op)?, 1));
-    let phrase = word(alloc, "red fox ran")?;
-    let estimate = h.estimate_reply(alloc, 1, &phrase)?;
-    assert!(rt; matches!(estimate, ReadReply::Found(1)));
-    assert!(rt; finds(h.search_reply(alloc, 1, &phrase)?, &[]));
-    let not = Query::Not(Boxed::new(alloc, phrase)?);
-    assert!(rt; finds(h.search_reply(alloc, 1, &not)?, &["/s.json"]));
+    commit(alloc, &mut h, op)?;
+    Ok(h)
+}
+
+#[test]
+fn estimates_look_at_neighbours_alone(rt: HostRuntime) -> Result<(), Fail> {
+    let h = foxes(rt.alloc())?;
+    let phrase = word(rt.alloc(), "red fox ran")?;
+    let estimate = h.estimate_reply(rt.alloc(), 1, &phrase)?;
+    assert!(rt; matches!(&estimate, ReadReply::Found(1)));
+    assert!(rt; finds(rt.alloc(), &h, 1, "red fox ran", &[])?);
     Ok(())
+}
+
+#[test]
+fn a_negated_phrase_is_searched_and_not_estimated(rt: HostRuntime) -> Result<(), Fail> {
+    let h = foxes(rt.alloc())?;
+    let not = Query::Not(Boxed::new(rt.alloc(), word(rt.alloc(), "red fox ran")?)?);
+    match &h.search_reply(rt.alloc(), 1, &not)? {
+        ReadReply::Found(found) => assert!(rt; is_list(found, &["/s.json"])),
+        _ => return Err("refused")?,
+    }
+    Ok(())
+}
+
+/// A put of an empty object under `/a` that expects a version.
+fn put_expecting(alloc: Global, h: &mut History, expect: Option<u64>) -> Result<CommitReply, Fail> {
+    let op = put(alloc, "/a", &[], expect)?;
+    commit(alloc, h, op)
 }
 
 #[test]
 fn commits_are_refused_for_another_live_version(rt: HostRuntime) -> Result<(), Fail> {
     let alloc = rt.alloc();
     let mut h = empty(alloc);
-    let first = put(alloc, "/a", &[], None)?;
-    assert!(rt; is_entered(commit(alloc, &mut h, first)?, 1));
-    let second = put(alloc, "/a", &[], None)?;
-    assert!(rt; is_entered(commit(alloc, &mut h, second)?, 2));
-    let stale = put(alloc, "/a", &[], Some(1))?;
-    let refused = commit(alloc, &mut h, stale)?;
+    put_expecting(alloc, &mut h, None)?;
+    put_expecting(alloc, &mut h, None)?;
+    let stale = put_expecting(alloc, &mut h, Some(1))?;
     assert!(rt;
         matches!(
-            refused,
+            &stale,
             CommitReply::Conflict {
                 found: 2,
                 front: 2,
@@ -174,30 +209,32 @@ fn commits_are_refused_for_another_live_version(rt: HostRuntime) -> Result<(), F
             }
         )
     );
-    let fresh = put(alloc, "/a", &[], Some(2))?;
-    assert!(rt; is_entered(commit(alloc, &mut h, fresh)?, 3));
-    let absent = remove(alloc, "/b", Some(0))?;
-    assert!(rt; is_entered(commit(alloc, &mut h, absent)?, 4));
+    let fresh = put_expecting(alloc, &mut h, Some(2))?;
+    assert!(rt; matches!(&fresh, CommitReply::Entered { at: 3 }));
     Ok(())
 }
 
 #[test]
-fn forgets_move_the_merge_timestamp(rt: HostRuntime) -> Result<(), Fail> {
+fn nothing_live_is_expected_by_0(rt: HostRuntime) -> Result<(), Fail> {
     let alloc = rt.alloc();
     let mut h = empty(alloc);
-    let uri = Text::from_str(alloc, "/v.json")?;
-    let op = put(alloc, "/v.json", &[("t", "one")], None)?;
-    assert!(rt; is_entered(commit(alloc, &mut h, op)?, 1));
-    let op = put(alloc, "/v.json", &[("t", "two")], None)?;
-    assert!(rt; is_entered(commit(alloc, &mut h, op)?, 2));
+    let absent = remove(alloc, "/b", Some(0))?;
+    let reply = commit(alloc, &mut h, absent)?;
+    assert!(rt; matches!(&reply, CommitReply::Entered { at: 1 }));
+    Ok(())
+}
+
+#[test]
+fn forgets_are_refused_in_order(rt: HostRuntime) -> Result<(), Fail> {
+    let mut h = one_two_gone(rt.alloc())?;
     assert!(rt;
         matches!(
             h.forget_reply(9, false),
-            ForgetReply::Ahead { t: 9, front: 2 }
+            ForgetReply::Ahead { t: 9, front: 3 }
         )
     );
-    assert!(rt; matches!(h.forget_reply(2, true), ForgetReply::Spent { front: 2 }));
-    assert!(rt; matches!(h.forget_reply(2, false), ForgetReply::Entered { at: 3 }));
+    assert!(rt; matches!(h.forget_reply(2, true), ForgetReply::Spent { front: 3 }));
+    assert!(rt; matches!(h.forget_reply(2, false), ForgetReply::Entered { at: 4 }));
     h.push(Entry::Forget(2))?;
     assert_eq!(rt; h.look().merge, 2);
     assert!(rt;
@@ -206,9 +243,24 @@ fn forgets_move_the_merge_timestamp(rt: HostRuntime) -> Result<(), Fail> {
             ForgetReply::Back { t: 1, merge: 2 }
         )
     );
-    let old = h.get_reply(alloc, 1, &uri)?;
-    assert!(rt; matches!(old, ReadReply::Old { asked: 1, merge: 2 }));
-    let live = h.get_reply(alloc, 3, &uri)?;
-    assert!(rt; matches!(live, ReadReply::Found(Some(version)) if version.created == 2));
+    Ok(())
+}
+
+fn created(reply: &ReadReply<Option<Version>>) -> u64 {
+    match reply {
+        ReadReply::Found(Some(version)) => version.created,
+        _ => 0,
+    }
+}
+
+#[test]
+fn gets_tell_the_version(rt: HostRuntime) -> Result<(), Fail> {
+    let mut h = one_two_gone(rt.alloc())?;
+    let uri = Text::from_str(rt.alloc(), "/v.json")?;
+    let live = h.get_reply(rt.alloc(), 2, &uri)?;
+    assert_eq!(rt; created(&live), 2);
+    h.push(Entry::Forget(2))?;
+    let old = h.get_reply(rt.alloc(), 1, &uri)?;
+    assert!(rt; matches!(&old, ReadReply::Old { asked: 1, merge: 2 }));
     Ok(())
 }
