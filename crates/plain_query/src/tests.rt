@@ -4,7 +4,7 @@ use sqlite_items::{Boxed, Items};
 use std::alloc::{AllocError, Global};
 use std::test::Fail;
 
-/// A document at /d/x.json whose members have texts as their values.
+/// A document whose members have texts as their values.
 fn document(alloc: Global, uri: &str, members: &[(&str, &str)]) -> Result<Document, Fail> {
     let mut root = Items::new(alloc);
     for member in members {
@@ -69,86 +69,111 @@ fn directory(alloc: Global, uri: &str, infinite: bool) -> Result<Query, AllocErr
     Ok(Query::Directory { uris, infinite })
 }
 
+fn holds(alloc: Global, d: &Document, query: Query) -> Result<bool, Fail> {
+    Ok(matches(alloc, &query, d)?)
+}
+
+fn has_word(alloc: Global, d: &Document, text: &str) -> Result<bool, Fail> {
+    holds(alloc, d, word(alloc, text)?)
+}
+
+fn red_and_fox(alloc: Global) -> Result<Document, Fail> {
+    document(alloc, "/d/x.json", &[("a", "red"), ("b", "fox")])
+}
+
 #[test]
 fn phrases_stand_in_one_string(rt: HostRuntime) -> Result<(), Fail> {
-    let d = document(rt.alloc(), "/d/x.json", &[("a", "red"), ("b", "fox")])?;
-    assert!(rt; !matches(rt.alloc(), &word(rt.alloc(), "red fox")?, &d)?);
-    assert!(rt; matches(rt.alloc(), &word(rt.alloc(), "red")?, &d)?);
-    let pair = ["red", "fox"];
-    assert!(rt; matches(rt.alloc(), &near(rt.alloc(), &pair, 1, false)?, &d)?);
-    assert!(rt; !matches(rt.alloc(), &near(rt.alloc(), &pair, 0, false)?, &d)?);
-    let twice = ["red", "red"];
-    assert!(rt; matches(rt.alloc(), &near(rt.alloc(), &twice, 0, false)?, &d)?);
-    assert!(rt; !matches(rt.alloc(), &near(rt.alloc(), &twice, 9, true)?, &d)?);
+    let d = red_and_fox(rt.alloc())?;
+    assert!(rt; !has_word(rt.alloc(), &d, "red fox")?);
+    assert!(rt; has_word(rt.alloc(), &d, "red")?);
+    assert!(rt; !has_word(rt.alloc(), &d, "FOX")?);
+    Ok(())
+}
+
+fn are_near(alloc: Global, distance: u32, words: [&str; 2], ordered: bool) -> Result<bool, Fail> {
+    let d = red_and_fox(alloc)?;
+    holds(alloc, &d, near(alloc, &words, distance, ordered)?)
+}
+
+#[test]
+fn near_counts_words_through_the_document(rt: HostRuntime) -> Result<(), Fail> {
+    assert!(rt; are_near(rt.alloc(), 1, ["red", "fox"], true)?);
+    assert!(rt; !are_near(rt.alloc(), 0, ["red", "fox"], false)?);
+    assert!(rt; !are_near(rt.alloc(), 1, ["fox", "red"], true)?);
+    Ok(())
+}
+
+#[test]
+fn one_start_serves_two_children_that_are_not_ordered(rt: HostRuntime) -> Result<(), Fail> {
+    assert!(rt; are_near(rt.alloc(), 0, ["red", "red"], false)?);
+    assert!(rt; !are_near(rt.alloc(), 9, ["red", "red"], true)?);
     Ok(())
 }
 
 #[test]
 fn bounds_look_at_neighbours(rt: HostRuntime) -> Result<(), Fail> {
-    let d = document(
-        rt.alloc(),
-        "/d/x.json",
-        &[("a", "red fox"), ("b", "fox ran")],
-    )?;
+    let members = [("a", "red fox"), ("b", "fox ran")];
+    let d = document(rt.alloc(), "/d/x.json", &members)?;
     let phrase = word(rt.alloc(), "red fox ran")?;
-    assert!(rt; !matches(rt.alloc(), &phrase, &d)?);
     let found = bounds(rt.alloc(), &phrase, &d)?;
     assert!(rt; found.maybe);
     assert!(rt; !found.sure);
     let other = Query::Not(Boxed::new(rt.alloc(), phrase)?);
-    assert!(rt; matches(rt.alloc(), &other, &d)?);
+    assert!(rt; holds(rt.alloc(), &d, other)?);
     Ok(())
+}
+
+fn finds(alloc: Global, text: &str, query: &str) -> Result<bool, Fail> {
+    let d = document(alloc, "/d/x.json", &[("a", text)])?;
+    has_word(alloc, &d, query)
 }
 
 #[test]
 fn case_counts_where_the_query_has_a_capital(rt: HostRuntime) -> Result<(), Fail> {
-    let weiss = document(rt.alloc(), "/d/x.json", &[("a", "Weiß")])?;
-    assert!(rt; matches(rt.alloc(), &word(rt.alloc(), "weiss")?, &weiss)?);
-    let capital = document(rt.alloc(), "/d/x.json", &[("a", "the Fox")])?;
-    let small = document(rt.alloc(), "/d/x.json", &[("a", "the fox")])?;
-    assert!(rt; matches(rt.alloc(), &word(rt.alloc(), "Fox")?, &capital)?);
-    assert!(rt; !matches(rt.alloc(), &word(rt.alloc(), "Fox")?, &small)?);
-    assert!(rt; matches(rt.alloc(), &word(rt.alloc(), "fox")?, &capital)?);
-    assert!(rt; matches(rt.alloc(), &word(rt.alloc(), "fox")?, &small)?);
+    assert!(rt; finds(rt.alloc(), "Anna Weiß", "weiss")?);
+    assert!(rt; finds(rt.alloc(), "the Fox", "Fox")?);
+    assert!(rt; !finds(rt.alloc(), "the fox", "Fox")?);
+    assert!(rt; finds(rt.alloc(), "the Fox", "fox")?);
     Ok(())
+}
+
+fn lies_in(alloc: Global, uri: &str, infinite: bool) -> Result<bool, Fail> {
+    let d = document(alloc, uri, &[])?;
+    holds(alloc, &d, directory(alloc, "/d/", infinite)?)
 }
 
 #[test]
 fn directories_hold_what_lies_below(rt: HostRuntime) -> Result<(), Fail> {
-    let near = document(rt.alloc(), "/d/x.json", &[])?;
-    let deep = document(rt.alloc(), "/d/e/y.json", &[])?;
-    let itself = document(rt.alloc(), "/d/", &[])?;
-    let one = directory(rt.alloc(), "/d/", false)?;
-    let any = directory(rt.alloc(), "/d/", true)?;
-    assert!(rt; matches(rt.alloc(), &one, &near)?);
-    assert!(rt; !matches(rt.alloc(), &one, &deep)?);
-    assert!(rt; matches(rt.alloc(), &any, &deep)?);
-    assert!(rt; !matches(rt.alloc(), &any, &itself)?);
+    assert!(rt; lies_in(rt.alloc(), "/d/x.json", false)?);
+    assert!(rt; !lies_in(rt.alloc(), "/d/e/y.json", false)?);
+    assert!(rt; lies_in(rt.alloc(), "/d/e/y.json", true)?);
+    assert!(rt; !lies_in(rt.alloc(), "/d/", true)?);
     Ok(())
+}
+
+fn equals(alloc: Global, text: &str, exact: bool) -> Result<bool, Fail> {
+    let d = document(alloc, "/d/x.json", &[("a", "The fox!")])?;
+    holds(alloc, &d, value(alloc, text, exact)?)
 }
 
 #[test]
 fn values_equal_word_by_word_or_exactly(rt: HostRuntime) -> Result<(), Fail> {
-    let d = document(rt.alloc(), "/d/x.json", &[("a", "The fox!")])?;
-    assert!(rt; matches(rt.alloc(), &value(rt.alloc(), "the, fox", false)?, &d)?);
-    assert!(rt; !matches(rt.alloc(), &value(rt.alloc(), "the fox", true)?, &d)?);
-    assert!(rt; matches(rt.alloc(), &value(rt.alloc(), "The fox!", true)?, &d)?);
-    assert!(rt; !matches(rt.alloc(), &value(rt.alloc(), "fox", false)?, &d)?);
+    assert!(rt; equals(rt.alloc(), "the, fox", false)?);
+    assert!(rt; !equals(rt.alloc(), "the fox", true)?);
+    assert!(rt; equals(rt.alloc(), "The fox!", true)?);
+    assert!(rt; !equals(rt.alloc(), "fox", false)?);
     Ok(())
 }
 
-#[test]
-fn ranges_leave_out_the_value_of_unequal(rt: HostRuntime) -> Result<(), Fail> {
-    let mut root = Items::new(rt.alloc());
+fn seven(alloc: Global) -> Result<Document, Fail> {
+    let mut root = Items::new(alloc);
     let seven = Dec::of_units(7).ok_or("none")?;
-    root.push((Text::from_str(rt.alloc(), "n")?, Node::Num(seven)))?;
-    let d = place(rt.alloc(), "/d/x.json", Node::Members(root))?;
-    assert!(rt; !unequal(rt.alloc(), &d, 7)?);
-    assert!(rt; unequal(rt.alloc(), &d, 8)?);
-    Ok(())
+    root.push((Text::from_str(alloc, "n")?, Node::Num(seven)))?;
+    place(alloc, "/d/x.json", Node::Members(root))
 }
 
-fn unequal(alloc: Global, d: &Document, units: i128) -> Result<bool, Fail> {
+fn is_unequal(alloc: Global, units: i128) -> Result<bool, Fail> {
+    let d = seven(alloc)?;
     let mut values = Items::new(alloc);
     values.push(Scalar::Num(Dec::of_units(units).ok_or("none")?))?;
     let query = Query::Range {
@@ -156,5 +181,12 @@ fn unequal(alloc: Global, d: &Document, units: i128) -> Result<bool, Fail> {
         op: Compare::Ne,
         values,
     };
-    Ok(matches(alloc, &query, d)?)
+    holds(alloc, &d, query)
+}
+
+#[test]
+fn ranges_compare_by_value(rt: HostRuntime) -> Result<(), Fail> {
+    assert!(rt; !is_unequal(rt.alloc(), 7)?);
+    assert!(rt; is_unequal(rt.alloc(), 8)?);
+    Ok(())
 }
