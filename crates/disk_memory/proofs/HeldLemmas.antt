@@ -216,12 +216,3 @@ left_more logs contents log content are here held file lt =
     (subst (λ (c : Option (Vec ℕ Global)). LeavesOf (slice_get logs (length contents)) (items_of c)) (sym (get_last contents content))
     (subst (λ (l : Option MemoryLog). LeavesOf l content.items) (sym here) held)))
     (lt_or_le file (length contents))
-
-pub blank_more : (contents more : List (Vec ℕ Global)) (content : Vec ℕ Global) → more ≡ contents ++ content ∷ [] → content.items ≡ 0 ∷ [] → AreBlank contents → AreBlank more
-blank_more contents more content is zero_byte blank file lt =
-    let grown : length more ≡ length contents + 1 = ap length is ∙ length-append contents (content ∷ []) in
-    subst (λ (cs : List (Vec ℕ Global)). bytes_of cs file ≡ 0 ∷ []) (sym is)
-    (⊎_elim (λ (below : file < length contents). ap items_of (get_front contents content file below) ∙ blank file below)
-    (λ (last : length contents ≤ file). let at : file ≡ length contents = omega arith in
-    ap (λ (f : ℕ). items_of (slice_get (contents ++ content ∷ []) f)) at ∙ (ap items_of (get_last contents content) ∙ zero_byte))
-    (lt_or_le file (length contents)))

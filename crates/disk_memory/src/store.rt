@@ -36,8 +36,7 @@ pub fn blank_logs(alloc: Global) -> Result<Vec<Vec<u8>>, AllocError>
     ensures blank { IfOk result (λ contents. AreBlank contents.items) }
 {
     let mut contents = Vec::new(alloc);
-    'logs: for count in 0..LOG_COUNT {
-        let _ = count;
+    'logs: for _ in 0..LOG_COUNT {
         contents.push(vec![in alloc; 0]?)?;
     }
     Ok(contents)

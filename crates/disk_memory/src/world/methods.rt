@@ -1,0 +1,61 @@
+// A world in memory as it is made and looked at.
+ghost use Rattle.std.specs.Prelude.{◌≡◌, List, [], ℕ, Some, None};
+ghost use Rattle.std.specs.Option.{option_copied};
+ghost use Rattle.disk_memory.specs.Worlds.{none_handed};
+
+use super::{MemoryClient, MemoryWorld};
+use crate::faults::Faults;
+use crate::plan::Plan;
+use crate::store::MemoryStore;
+use disk_model::World;
+use std::alloc::{AllocError, Global};
+use std::collections::{BTreeMap, VecDeque};
+
+impl MemoryWorld {
+    /// A world of these clients, without directories.
+    pub fn new(alloc: Global, waiting: VecDeque<MemoryClient>, plan: Plan) -> Self
+        ensures stores { ⟦<MemoryWorld as World>⟧.stores result ≡ none_handed }
+        ensures clients { ⟦<MemoryWorld as World>⟧.clients result ≡ none_handed }
+        ensures stands { (dir : List ℕ) → ⟦<MemoryWorld as World>⟧.stands result dir ≡ Some None }
+        ensures printed { ⟦<MemoryWorld as World>⟧.printed result ≡ Some [] }
+        ensures faults { ⟦<MemoryWorld as World>⟧.faults result ≡ 0 }
+    {
+        MemoryWorld {
+            alloc,
+            waiting,
+            client_seats: Vec::new(alloc),
+            clients_returned: 0,
+            directories: BTreeMap::new(alloc),
+            store_seats: Vec::new(alloc),
+            stores_returned: 0,
+            printed: Vec::new(alloc),
+            faults: Faults::new(plan),
+        }
+    }
+
+    /// Lets a store stand in a directory.
+    pub fn stand(&mut self, dir: &str, store: MemoryStore) -> Result<(), AllocError> {
+        let directory = String::from_str(self.alloc, dir)?;
+        self.directories.insert(directory, store)?;
+        Ok(())
+    }
+
+    /// The store that stands in a directory.
+    pub fn store(&self, dir: &str) -> Option<&MemoryStore>
+        ensures { ⟦<MemoryWorld as World>⟧.stands self.now dir.now ≡ Some (option_copied result) }
+    {
+        self.directories.get(dir)
+    }
+
+    /// A client that was put back, by its place in the order.
+    pub fn client_back(&self, place: usize) -> Option<&MemoryClient> {
+        self.client_seats.get(place)?.back.as_ref()
+    }
+
+    /// What was printed.
+    pub fn printed(&self) -> &[u8]
+        ensures { ⟦<MemoryWorld as World>⟧.printed self.now ≡ Some result.now }
+    {
+        &self.printed
+    }
+}
