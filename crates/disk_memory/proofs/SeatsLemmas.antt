@@ -61,7 +61,7 @@ due seats n seat lt was =
     ∙ (slice_get-map (λ (s : StoreSeat). string_bytes s.directory) seats n
     ∙ ap (option_map (λ (s : StoreSeat). string_bytes s.directory)) (slice_get_read seats (length seats) n seat refl lt was))
 
-equal_bytes : (bs cs : List ℕ) → bs ≡ cs → bytes_eq bs cs ≡ true
+pub equal_bytes : (bs cs : List ℕ) → bs ≡ cs → bytes_eq bs cs ≡ true
 equal_bytes bs cs same = (bytes_eq-Decides bs cs).1 same
 
 pub apart_bytes : (bs cs : List ℕ) → bs ≢ cs → bytes_eq bs cs ≡ false

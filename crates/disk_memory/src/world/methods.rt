@@ -1,5 +1,5 @@
 // A world in memory as it is made and looked at.
-ghost use Rattle.std.specs.Prelude.{◌≡◌, List, [], ℕ, Some, None};
+ghost use Rattle.std.specs.Prelude.{◌≡◌, ◌≢◌, List, [], ℕ, Some, None, OnOk, OnErr};
 ghost use Rattle.std.specs.Option.{option_copied};
 ghost use Rattle.disk_memory.specs.Worlds.{none_handed};
 
@@ -33,8 +33,13 @@ impl MemoryWorld {
         }
     }
 
-    /// Lets a store stand in a directory.
-    pub fn stand(&mut self, dir: &str, store: MemoryStore) -> Result<(), AllocError> {
+    /// Lets a store stand in a directory, in place of what stood there.
+    pub fn stand(&mut self, dir: &str, store: MemoryStore) -> Result<(), AllocError>
+        ensures stands { OnOk result (⟦<MemoryWorld as World>⟧.stands self.new dir.now ≡ Some (Some store)) }
+        ensures broken { OnErr result (⟦<MemoryWorld as World>⟧.stands self.new ≡ ⟦<MemoryWorld as World>⟧.stands self.old) }
+        ensures others { (other : List ℕ) → other ≢ dir.now
+            → ⟦<MemoryWorld as World>⟧.stands self.new other ≡ ⟦<MemoryWorld as World>⟧.stands self.old other }
+    {
         let directory = String::from_str(self.alloc, dir)?;
         self.directories.insert(directory, store)?;
         Ok(())
