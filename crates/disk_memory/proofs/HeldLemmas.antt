@@ -1,5 +1,5 @@
 -- One log of several changes.
-use Rattle.std.proofs.Common.{◌≡◌, ◌≢◌, ◌⊎◌, inl, inr, ⊎_elim, ℕ, zero, suc, ◌+◌, ◌<◌, ◌≤◌, List, [], ◌∷◌, ◌++◌, length, drop, get_or, Option, Some, Vec, refl, sym, ◌∙◌, ap, subst, arith, length-append, slice_set}
+use Rattle.std.proofs.Common.{◌≡◌, ◌≢◌, ◌⊎◌, inl, inr, ⊎_elim, ℕ, zero, suc, ◌<◌, ◌≤◌, List, [], ◌∷◌, ◌++◌, length, drop, get_or, Option, Some, Vec, refl, sym, ◌∙◌, ap, subst, arith, length-append, slice_set}
 use Rattle.std.specs.Prelude.{slice_get}
 use Rattle.std.specs.declared.alloc.Global.{Global}
 use Rattle.std.specs.declared.snapshot.Snapshot.{Snapshot}
@@ -11,7 +11,7 @@ use Rattle.disk_model.specs.Moments.{Elapses}
 use Rattle.disk_memory.specs.declared.change.Change.{Change}
 use Rattle.disk_memory.specs.declared.log.MemoryLog.{MemoryLog}
 use Rattle.disk_memory.specs.Changes.{MayHold, MayBecome}
-use Rattle.disk_memory.specs.Held.{content_of, read_of, items_of, bytes_of, AreSure, AreLeft, AreBlank, LeavesOf, MayLeave, MightLeave, LeftSince, Steps}
+use Rattle.disk_memory.specs.Held.{content_of, read_of, items_of, bytes_of, AreSure, AreLeft, LeavesOf, MayLeave, MightLeave, LeftSince, Steps}
 
 pub get_set_here : {A : Type 0} → (xs : List A) (i : ℕ) (x : A) → i < length xs → slice_get (slice_set xs i x) i ≡ Some x
 get_set_here [] i x lt = absurd (omega arith)

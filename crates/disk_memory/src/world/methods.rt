@@ -1,6 +1,6 @@
 // A world in memory as it is made and looked at.
-ghost use Rattle.std.specs.Prelude.{◌≡◌, ◌≢◌, List, [], ℕ, Some, None, OnOk, OnErr};
-ghost use Rattle.std.specs.Option.{option_copied};
+ghost use Rattle.std.specs.Prelude.{◌≡◌, ◌≢◌, List, [], ℕ, Some, None, OnOk, OnErr, slice_get};
+ghost use Rattle.std.specs.Option.{option_copied, option_and_then};
 ghost use Rattle.disk_memory.specs.Worlds.{none_handed};
 
 use super::{MemoryClient, MemoryWorld};
@@ -36,7 +36,8 @@ impl MemoryWorld {
     /// Lets a store stand in a directory, in place of what stood there.
     pub fn stand(&mut self, dir: &str, store: MemoryStore) -> Result<(), AllocError>
         ensures stands { OnOk result (⟦<MemoryWorld as World>⟧.stands self.new dir.now ≡ Some (Some store)) }
-        ensures broken { OnErr result (⟦<MemoryWorld as World>⟧.stands self.new ≡ ⟦<MemoryWorld as World>⟧.stands self.old) }
+        ensures broken { OnErr result
+            (⟦<MemoryWorld as World>⟧.stands self.new ≡ ⟦<MemoryWorld as World>⟧.stands self.old) }
         ensures others { (other : List ℕ) → other ≢ dir.now
             → ⟦<MemoryWorld as World>⟧.stands self.new other ≡ ⟦<MemoryWorld as World>⟧.stands self.old other }
     {
@@ -53,8 +54,12 @@ impl MemoryWorld {
     }
 
     /// A client that was put back, by its place in the order.
-    pub fn client_back(&self, place: usize) -> Option<&MemoryClient> {
-        self.client_seats.get(place)?.back.as_ref()
+    pub fn client_back(&self, place: usize) -> Option<&MemoryClient>
+        ensures { option_copied result ≡ option_and_then (λ back. back)
+            (slice_get (⟦<MemoryWorld as World>⟧.clients self.now).back place) }
+    {
+        let returned = &self.client_seats[..self.clients_returned];
+        returned.get(place)?.back.as_ref()
     }
 
     /// What was printed.
