@@ -16,7 +16,8 @@ use Rattle.disk_memory.specs.declared.world.MemoryWorld.{MemoryWorld}
 
 -- the clients of these seats, of which so many came back
 abbrev pub seated_clients : List ClientSeat → ℕ → Handed (Client MemorySource MemorySink MemoryPort)
-seated_clients seats returned = record { out = map (λ s. s.out.value) seats; back = map (λ s. s.back) (take returned seats) }
+seated_clients seats returned =
+    record { out = map (λ s. s.out.value) seats; back = map (λ s. s.back) (take returned seats) }
 
 -- the stores of these seats, of which so many came back
 abbrev pub seated_stores : List StoreSeat → ℕ → Handed (Store MemoryDisk MemoryYard)

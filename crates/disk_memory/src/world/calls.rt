@@ -69,7 +69,8 @@ impl World for MemoryWorld {
         ensures back { Returns result store (stores_of self.old) (stores_of self.new) }
         ensures stands { OnOk result (IfSome (due_in self.old)
             (λ dir. IfSome (standing self.new dir) (λ found. found ≡ Some store))) }
-        ensures others { (other : List ℕ) → due_in self.old ≢ Some other → standing self.new other ≡ standing self.old other }
+        ensures others { (other : List ℕ) → due_in self.old ≢ Some other
+            → standing self.new other ≡ standing self.old other }
         ensures directories { directories_of self.new ≡ directories_of self.old }
         ensures clients { clients_of self.new ≡ clients_of self.old }
         ensures printed { Some self.new.printed.items ≡ Some self.old.printed.items }
