@@ -1,5 +1,5 @@
 -- One log of several changes.
-use Rattle.std.proofs.Common.{◌≡◌, ◌≢◌, ◌⊎◌, inl, inr, ⊎_elim, ℕ, zero, suc, ◌+◌, ◌<◌, ◌≤◌, List, [], ◌∷◌, ◌++◌, length, drop, get_or, Option, Some, Vec, refl, sym, ◌∙◌, ap, subst, arith, length-append, slice_set}
+use Rattle.std.proofs.Common.{◌≡◌, ◌≢◌, ◌⊎◌, inl, inr, ⊎_elim, ℕ, zero, suc, ◌<◌, ◌≤◌, List, [], ◌∷◌, ◌++◌, length, drop, get_or, Option, Some, Vec, refl, sym, ◌∙◌, ap, subst, arith, length-append, slice_set}
 use Rattle.std.specs.Prelude.{slice_get}
 use Rattle.std.specs.declared.alloc.Global.{Global}
 use Rattle.std.specs.declared.snapshot.Snapshot.{Snapshot}
@@ -11,7 +11,7 @@ use Rattle.disk_model.specs.Moments.{Elapses}
 use Rattle.disk_memory.specs.declared.change.Change.{Change}
 use Rattle.disk_memory.specs.declared.log.MemoryLog.{MemoryLog}
 use Rattle.disk_memory.specs.Changes.{MayHold, MayBecome}
-use Rattle.disk_memory.specs.Held.{content_of, read_of, items_of, bytes_of, AreSure, AreLeft, AreBlank, LeavesOf, MayLeave, MightLeave, LeftSince, Steps}
+use Rattle.disk_memory.specs.Held.{content_of, read_of, items_of, bytes_of, AreSure, AreLeft, LeavesOf, MayLeave, MightLeave, LeftSince, Steps}
 
 pub get_set_here : {A : Type 0} → (xs : List A) (i : ℕ) (x : A) → i < length xs → slice_get (slice_set xs i x) i ≡ Some x
 get_set_here [] i x lt = absurd (omega arith)
@@ -216,12 +216,3 @@ left_more logs contents log content are here held file lt =
     (subst (λ (c : Option (Vec ℕ Global)). LeavesOf (slice_get logs (length contents)) (items_of c)) (sym (get_last contents content))
     (subst (λ (l : Option MemoryLog). LeavesOf l content.items) (sym here) held)))
     (lt_or_le file (length contents))
-
-pub blank_more : (contents more : List (Vec ℕ Global)) (content : Vec ℕ Global) → more ≡ contents ++ content ∷ [] → content.items ≡ 0 ∷ [] → AreBlank contents → AreBlank more
-blank_more contents more content is zero_byte blank file lt =
-    let grown : length more ≡ length contents + 1 = ap length is ∙ length-append contents (content ∷ []) in
-    subst (λ (cs : List (Vec ℕ Global)). bytes_of cs file ≡ 0 ∷ []) (sym is)
-    (⊎_elim (λ (below : file < length contents). ap items_of (get_front contents content file below) ∙ blank file below)
-    (λ (last : length contents ≤ file). let at : file ≡ length contents = omega arith in
-    ap (λ (f : ℕ). items_of (slice_get (contents ++ content ∷ []) f)) at ∙ (ap items_of (get_last contents content) ∙ zero_byte))
-    (lt_or_le file (length contents)))

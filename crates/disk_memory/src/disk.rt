@@ -58,8 +58,10 @@ impl MemoryDisk {
         landed: &[Vec<u64>],
         meter: Meter,
     ) -> Result<Self, AllocError>
-        ensures left { IfOk result (λ disk. IfSome (⟦<MemoryDisk as Disk>⟧.seen disk) (⟦<MemoryDisk as Disk>⟧.may_leave self.now)) }
-        ensures sure { IfOk result (λ disk. (file : ℕ) → Settled file (⟦<MemoryDisk as Disk>⟧.seen disk) (⟦<MemoryDisk as Disk>⟧.may_leave disk)) }
+        ensures left { IfOk result (λ disk. IfSome (⟦<MemoryDisk as Disk>⟧.seen disk)
+            (⟦<MemoryDisk as Disk>⟧.may_leave self.now)) }
+        ensures sure { IfOk result (λ disk. (file : ℕ) → Settled file
+            (⟦<MemoryDisk as Disk>⟧.seen disk) (⟦<MemoryDisk as Disk>⟧.may_leave disk)) }
     {
         let contents = all_left(alloc, &self.logs.logs, landed)?;
         MemoryDisk::new(alloc, contents, meter)

@@ -16,7 +16,8 @@ pub type MemoryStore = Store<MemoryDisk, MemoryYard>;
 
 /// The store of a directory without files. None of its calls is to fail.
 pub fn blank_store(alloc: Global) -> Result<MemoryStore, AllocError>
-    ensures { IfOk result (λ store. IsBlank (⟦<MemoryDisk as Disk>⟧.seen store.disk) (⟦<MemoryDisk as Disk>⟧.may_leave store.disk) (⟦<MemoryYard as Yard>⟧.holds store.yard)) }
+    ensures { IfOk result (λ store. IsBlank (⟦<MemoryDisk as Disk>⟧.seen store.disk)
+        (⟦<MemoryDisk as Disk>⟧.may_leave store.disk) (⟦<MemoryYard as Yard>⟧.holds store.yard)) }
 {
     let plan = Plan {
         failing: Vec::new(alloc),
@@ -36,8 +37,7 @@ pub fn blank_logs(alloc: Global) -> Result<Vec<Vec<u8>>, AllocError>
     ensures blank { IfOk result (λ contents. AreBlank contents.items) }
 {
     let mut contents = Vec::new(alloc);
-    'logs: for count in 0..LOG_COUNT {
-        let _ = count;
+    'logs: for _ in 0..LOG_COUNT {
         contents.push(vec![in alloc; 0]?)?;
     }
     Ok(contents)

@@ -2,10 +2,12 @@
 ghost use Rattle.std.specs.Prelude.{◌≡◌, ◌<◌, length, IfOk};
 
 use crate::{
-    MemoryDisk, MemoryPort, MemorySink, MemorySource, Meter, Plan, blank_logs, blank_store,
+    MemoryClient, MemoryDisk, MemoryPort, MemorySink, MemorySource, MemoryWorld, Meter, Plan,
+    blank_logs, blank_store,
 };
-use disk_model::{Build, Disk, Failed, Port, Sink, Source, Store, Yard};
+use disk_model::{Build, Client, Disk, Failed, Port, SealedFile, Sink, Source, Store, World, Yard};
 use std::alloc::{AllocError, Global};
+use std::collections::VecDeque;
 
 #[derive(Debug, Drop)]
 enum Fail {
@@ -149,5 +151,65 @@ fn streams_give_and_keep_their_bytes(rt: HostRuntime) -> Result<(), Fail> {
     let mut sink = MemorySink::new(alloc, smooth(alloc));
     sink.write(b"abc")?;
     assert_eq!(rt; sink.bytes(), b"abc".as_slice());
+    Ok(())
+}
+
+fn one_client(alloc: Global) -> Result<VecDeque<MemoryClient>, Fail> {
+    let mut waiting = VecDeque::new(alloc);
+    let client = Client {
+        source: MemorySource::new(bytes_of(alloc, b"ab")?, 2, smooth(alloc)),
+        sink: MemorySink::new(alloc, smooth(alloc)),
+        port: MemoryPort::new(smooth(alloc)),
+    };
+    let Ok(()) = waiting.push_back(client) else {
+        return Err(Fail::Memory);
+    };
+    Ok(waiting)
+}
+
+#[test]
+fn an_admitted_file_is_held(rt: HostRuntime) -> Result<(), Fail> {
+    let Store { mut yard, .. } = blank_store(rt.alloc())?;
+    let mut build = yard.fresh(7)?;
+    build.append(b"some bytes")?;
+    let file = build.seal()?;
+    yard.admit(&file);
+    let Some(held) = yard.open(7)? else {
+        return Err(Fail::Device);
+    };
+    assert_eq!(rt; (held.number(), held.len()), (7, 10));
+    assert!(rt; yard.open(8)?.is_none());
+    Ok(())
+}
+
+#[test]
+fn a_store_stands_once_it_is_put_back(rt: HostRuntime) -> Result<(), Fail> {
+    let alloc = rt.alloc();
+    let mut world = MemoryWorld::new(alloc, VecDeque::new(alloc), smooth(alloc));
+    let Store { mut disk, yard } = world.take_store("a")?;
+    append(&mut disk, b"abc")?;
+    world.put_store(Store { disk, yard })?;
+    assert!(rt; world.store("b").is_none());
+    let Store { mut disk, .. } = world.take_store("a")?;
+    assert_eq!(rt; content(alloc, &mut disk)?.as_slice(), b"\0abc".as_slice());
+    assert!(rt; world.store("a").is_none());
+    Ok(())
+}
+
+#[test]
+fn a_client_comes_back_with_its_replies(rt: HostRuntime) -> Result<(), Fail> {
+    let alloc = rt.alloc();
+    let mut world = MemoryWorld::new(alloc, one_client(alloc)?, smooth(alloc));
+    let mut client = world.client(None)?;
+    client.sink.write(b"hello")?;
+    world.put_client(client)?;
+    let Some(back) = world.client_back(0) else {
+        return Err(Fail::Device);
+    };
+    assert_eq!(rt; back.sink.bytes(), b"hello".as_slice());
+    world.print(b"done")?;
+    assert_eq!(rt; world.printed(), b"done".as_slice());
+    assert!(rt; world.client(None).is_err());
+    assert_eq!(rt; world.faults(), 1);
     Ok(())
 }

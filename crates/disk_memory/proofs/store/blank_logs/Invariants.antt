@@ -3,4 +3,4 @@ use Rattle.disk_memory.specs.Held.{AreBlank}
 use Rattle.disk_memory.proofs.store.blank_logs.Given as goal
 
 abbrev pub invariant-logs : goal.invariant-logs
-invariant-logs l = (length l.contents.items ≡ l.count) × AreBlank l.contents.items
+invariant-logs l = (length l.contents.items ≡ l.counter) × AreBlank l.contents.items

@@ -1,4 +1,4 @@
-use Rattle.std.proofs.Common.{◌≡◌, ◌≤◌, ℕ, List, Option, IfSome, length, sym, subst, arith}
+use Rattle.std.proofs.Common.{◌≤◌, Option, IfSome, length, sym, subst, arith}
 use Rattle.disk_model.specs.Logs.{Image}
 use Rattle.disk_memory.proofs.tests.append.Goals as goal
 

@@ -1,7 +1,7 @@
 use Rattle.std.proofs.Common.{Some, inr, refl}
 use Rattle.disk_memory.specs.declared.world.ClientSeat.{ClientSeat}
 use Rattle.disk_memory.proofs.SeatsLemmas.{room, client_returns}
-use Rattle.disk_memory.proofs.world.MemoryWorldWorld.put_client.Goals as goal
+use Rattle.disk_memory.proofs.world.calls.MemoryWorldWorld.put_client.Goals as goal
 
 pub returns-then-not-lets-clause-back : goal.returns-then-not-lets-clause-back
 returns-then-not-lets-clause-back c =
