@@ -1,0 +1,109 @@
+use crate::fixtures::{array, enclosed, growing_texts, long_text, member, pair, texts};
+use doc_model::{DocRefusal, Document, Node, Text, Texts};
+use std::alloc::{AllocError, Global};
+use std::test::Fail;
+
+fn refusal_of(
+    alloc: Global,
+    uri: &str,
+    collections: Texts,
+    root: Node,
+) -> Result<Option<DocRefusal>, AllocError> {
+    let uri = Text::from_str(alloc, uri)?;
+    Ok(Document::new(alloc, uri, collections, root).err())
+}
+
+#[test]
+fn uris(rt: HostRuntime) -> Result<(), Fail> {
+    let most = long_text(rt.alloc(), 1024)?;
+    let more = long_text(rt.alloc(), 1025)?;
+    for (uri, wanted) in [
+        ("", Some(DocRefusal::Uri)),
+        ("!", None),
+        ("/a b", Some(DocRefusal::Uri)),
+        ("/~\u{80}é", None),
+        ("/\u{7F}", Some(DocRefusal::Uri)),
+        (most.as_str(), None),
+        (more.as_str(), Some(DocRefusal::Uri)),
+    ] {
+        let given = refusal_of(rt.alloc(), uri, Texts::new(rt.alloc()), Node::Null)?;
+        assert_eq!(rt; given, wanted, "{uri:?}");
+    }
+    Ok(())
+}
+
+#[test]
+fn collections(rt: HostRuntime) -> Result<(), Fail> {
+    let most = long_text(rt.alloc(), 1024)?;
+    let more = long_text(rt.alloc(), 1025)?;
+    for (names, wanted) in [
+        ([" ", "Z", "a", "é"], None),
+        (["a", "c", "b", "d"], Some(DocRefusal::Collections)),
+        (["a", "b", "b", "c"], Some(DocRefusal::Collections)),
+        (["", "a", "b", "c"], Some(DocRefusal::Collections)),
+        (["A", "B", "C", most.as_str()], None),
+        (["A", "B", "C", more.as_str()], Some(DocRefusal::Collections)),
+    ] {
+        let names = texts(rt.alloc(), names.as_slice())?;
+        assert_eq!(rt; refusal_of(rt.alloc(), "/a", names, Node::Null)?, wanted);
+    }
+    for (count, wanted) in [(64, None), (65, Some(DocRefusal::Collections))] {
+        let names = growing_texts(rt.alloc(), count)?;
+        assert_eq!(rt; refusal_of(rt.alloc(), "/a", names, Node::Null)?, wanted);
+    }
+    Ok(())
+}
+
+#[test]
+fn depths(rt: HostRuntime) -> Result<(), Fail> {
+    for (times, wanted) in [(128, None), (129, Some(DocRefusal::Depth))] {
+        let root = enclosed(rt.alloc(), Node::Null, times)?;
+        let given = refusal_of(rt.alloc(), "/a", Texts::new(rt.alloc()), root)?;
+        assert_eq!(rt; given, wanted, "at {times}");
+    }
+    Ok(())
+}
+
+/// `[{"a":{"a":null,"b":null},NAME:null}]`
+fn named(alloc: Global, name: &str) -> Result<Node, AllocError> {
+    let null = member(alloc, "a", Node::Null)?;
+    let inner = pair(alloc, null, member(alloc, "b", Node::Null)?)?;
+    let first = member(alloc, "a", inner)?;
+    array(alloc, pair(alloc, first, member(alloc, name, Node::Null)?)?)
+}
+
+#[test]
+fn names(rt: HostRuntime) -> Result<(), Fail> {
+    for (name, wanted) in [("A", None), ("b", None), ("a", Some(DocRefusal::Names))] {
+        let root = named(rt.alloc(), name)?;
+        let given = refusal_of(rt.alloc(), "/a", Texts::new(rt.alloc()), root)?;
+        assert_eq!(rt; given, wanted, "{name}");
+    }
+    Ok(())
+}
+
+#[test]
+fn sizes(rt: HostRuntime) -> Result<(), Fail> {
+    // the URI, a collection, the node and its text: 2 + 3 + 1 + length
+    for (length, wanted) in [(16_777_210, None), (16_777_211, Some(DocRefusal::Size))] {
+        let root = Node::Text(long_text(rt.alloc(), length)?);
+        let names = texts(rt.alloc(), ["abc"].as_slice())?;
+        let given = refusal_of(rt.alloc(), "/a", names, root)?;
+        assert_eq!(rt; given, wanted, "of {length}");
+    }
+    Ok(())
+}
+
+#[test]
+fn parts_of_a_copy(rt: HostRuntime) -> Result<(), Fail> {
+    let uri = Text::from_str(rt.alloc(), "/b.json")?;
+    let names = texts(rt.alloc(), ["eu", "new"].as_slice())?;
+    let root = named(rt.alloc(), "id")?;
+    let document = Document::new(rt.alloc(), uri, names, root)?.copy(rt.alloc())?;
+    assert_eq!(rt; document.uri().as_str(), "/b.json");
+    assert_eq!(rt; document.collections().len(), 2);
+    assert!(rt; matches!(document.root(), Node::Items(items) if items.len() == 1));
+    // 7 bytes of the URI, 5 of the collections, 6 nodes, 5 bytes of names
+    assert_eq!(rt; document.size(), 23);
+    Ok(())
+}

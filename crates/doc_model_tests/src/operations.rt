@@ -1,0 +1,86 @@
+ghost use Rattle.std.specs.Prelude.{◌≡◌};
+ghost use Rattle.std.specs.List.{list_all};
+ghost use Rattle.doc_model.specs.Operations.{removes_uri};
+
+use crate::fixtures::long_text;
+use doc_model::{Document, Node, Op, Ops, OpsRefusal, Text, Texts, is_uri};
+use std::alloc::{AllocError, Global};
+use std::test::Fail;
+
+/// Puts a document of this size.
+fn put(alloc: Global, size: usize) -> Result<Op, Fail> {
+    // its URI and its node count too
+    let root = Node::Text(long_text(alloc, size.saturating_sub(3))?);
+    let uri = Text::from_str(alloc, "/a")?;
+    let document = Document::new(alloc, uri, Texts::new(alloc), root)?;
+    Ok(Op::Put {
+        document,
+        expect: None,
+    })
+}
+
+fn removals(alloc: Global, count: usize) -> Result<Vec<Op>, AllocError> {
+    let mut list = Vec::new(alloc);
+    for _ in 0..count {
+        let uri = Text::from_str(alloc, "/removed")?;
+        let expect = Some(0);
+        list.push(Op::Remove { uri, expect })?;
+    }
+    Ok(list)
+}
+
+fn has_uri(op: &Op) -> bool
+    ensures { result ≡ removes_uri op.now }
+{
+    match op {
+        Op::Put { .. } => true,
+        Op::Remove { uri, .. } => is_uri(uri.as_str()),
+    }
+}
+
+fn have_uris(list: &[Op]) -> bool
+    ensures { result ≡ list_all removes_uri list.now }
+{
+    list.iter().all(|op| has_uri(op))
+}
+
+#[test]
+fn counts(rt: HostRuntime) -> Result<(), Fail> {
+    for (count, wanted) in [
+        (0, Some(OpsRefusal::Count { n: 0 })),
+        (1, None),
+        (1000, None),
+        (1001, Some(OpsRefusal::Count { n: 1001 })),
+    ] {
+        let list = removals(rt.alloc(), count)?;
+        assert!(rt; have_uris(&list));
+        assert_eq!(rt; Ops::new(list).err(), wanted);
+    }
+    Ok(())
+}
+
+#[test]
+fn sizes(rt: HostRuntime) -> Result<(), Fail> {
+    // two documents of 2^23, or one byte more; removals have no size
+    for (size, wanted) in [(8_388_608, None), (8_388_609, Some(OpsRefusal::Size))] {
+        let mut list = removals(rt.alloc(), 998)?;
+        list.push(put(rt.alloc(), size)?)?;
+        list.push(put(rt.alloc(), 8_388_608)?)?;
+        assert!(rt; have_uris(&list));
+        assert_eq!(rt; Ops::new(list).err(), wanted, "at {size}");
+    }
+    Ok(())
+}
+
+#[test]
+fn uris_of_a_copy(rt: HostRuntime) -> Result<(), Fail> {
+    let mut list = removals(rt.alloc(), 1)?;
+    list.push(put(rt.alloc(), 9)?)?;
+    assert!(rt; have_uris(&list));
+    let ops = Ops::new(list)?.copy(rt.alloc())?;
+    assert_eq!(rt; ops.as_slice().len(), 2);
+    for (op, uri) in ops.as_slice().iter().zip(["/removed", "/a"]) {
+        assert_eq!(rt; op.uri().as_str(), uri);
+    }
+    Ok(())
+}
