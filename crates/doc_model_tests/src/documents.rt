@@ -42,7 +42,10 @@ fn collections(rt: HostRuntime) -> Result<(), Fail> {
         (["a", "b", "b", "c"], Some(DocRefusal::Collections)),
         (["", "a", "b", "c"], Some(DocRefusal::Collections)),
         (["A", "B", "C", most.as_str()], None),
-        (["A", "B", "C", more.as_str()], Some(DocRefusal::Collections)),
+        (
+            ["A", "B", "C", more.as_str()],
+            Some(DocRefusal::Collections),
+        ),
     ] {
         let names = texts(rt.alloc(), names.as_slice())?;
         assert_eq!(rt; refusal_of(rt.alloc(), "/a", names, Node::Null)?, wanted);

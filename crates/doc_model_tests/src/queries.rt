@@ -100,7 +100,12 @@ fn counts_of_copies(rt: HostRuntime) -> Result<(), Fail> {
 
 #[test]
 fn directories(rt: HostRuntime) -> Result<(), Fail> {
-    for (uri, wanted) in [("/", "ok"), ("/d/", "ok"), ("/d", "directory"), ("", "directory")] {
+    for (uri, wanted) in [
+        ("/", "ok"),
+        ("/d/", "ok"),
+        ("/d", "directory"),
+        ("", "directory"),
+    ] {
         let uris = texts(rt.alloc(), ["/", uri].as_slice())?;
         let infinite = true;
         let query = not(rt.alloc(), Query::Directory { uris, infinite })?;
