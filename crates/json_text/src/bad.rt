@@ -1,4 +1,5 @@
-/// Why bytes are no JSON text that is taken, and where: an offset from 0. The fault with the least place is told.
+/// Why bytes are no JSON text that is taken, and where: an offset from 0. It is the first fault that reading from left
+/// to right meets; that its place is what the variants say is shown by tests.
 #[derive(Clone, Copy, Debug, PartialEq, Eq)]
 pub enum JsonBad {
     /// The length of the longest prefix that is a prefix of some JSON text.
