@@ -1,0 +1,4 @@
+pub mod Stretches
+pub mod Changes
+pub mod Bytes
+pub mod Steps
