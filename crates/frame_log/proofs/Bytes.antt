@@ -1,11 +1,10 @@
 -- What writes, cuts and torn writes make of a log's bytes.
-use Rattle.std.proofs.Common.{◌≡◌, ◌≢◌, ◌≤◌, ◌<◌, ◌^◌, ◌∙◌, ◌+◌, inl, inr, ⊎_elim, refl, sym, ap, subst, ℕ, max, List, [], ◌∷◌, ◌++◌, length, take, drop, append_assoc, length-append, arith}
-use Rattle.std.specs.List.{flat_map}
+use Rattle.std.proofs.Common.{◌≡◌, ◌≢◌, ◌≤◌, ◌<◌, ◌^◌, ◌∙◌, ◌+◌, inl, inr, ⊎_elim, refl, sym, ap, subst, ℕ, List, [], ◌∷◌, ◌++◌, length, take, drop, append_assoc, length-append, arith}
 use Rattle.std.specs.Int.{w64, to_be_bytes}
 use Rattle.std.proofs.lemmas.Bool.{cases_eq}
 use Rattle.std.proofs.lemmas.List.{take_at, drop_at, append-nil, length-take}
 use Rattle.disk_model.proofs.LogsLemmas.{whole_torn}
-use Rattle.disk_model.specs.Logs.{written_at, Writes, Torn, Cuts, MayCut}
+use Rattle.disk_model.specs.Logs.{written_at, Writes, Torn, MayCut}
 use Rattle.frame_log.specs.Frames.{open_frame, sized, framed, HasFrames, HasGate, MayHave}
 use Rattle.frame_log.specs.declared.frame.TheConstants.{OPEN, CLOSED}
 
@@ -55,7 +54,7 @@ module _ (front : List ℕ) (gate : ℕ) (behind : List ℕ) (end : ℕ) (at_end
   -- the gate written over
   pub gate_written : (byte : ℕ) → written_at (front ++ gate ∷ behind) end (byte ∷ []) ≡ front ++ byte ∷ behind
   gate_written byte = ap (λ (l : List ℕ). l ++ (byte ∷ []) ++ drop (end + 1) (front ++ gate ∷ behind)) before
-    ∙ ap (λ (l : List ℕ). front ++ (byte ∷ []) ++ l) past_gate ∙ append_assoc front (byte ∷ []) behind
+      ∙ ap (λ (l : List ℕ). front ++ (byte ∷ []) ++ l) past_gate ∙ append_assoc front (byte ∷ []) behind
 
   -- whatever is written behind the gate, it stands
   pub behind_written : (more rest : List ℕ) → take (end + 1) (front ++ gate ∷ behind) ++ more ++ rest ≡ front ++ gate ∷ (more ++ rest)

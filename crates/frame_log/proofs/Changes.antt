@@ -1,9 +1,8 @@
 -- A change of one log that is synced: what is read, and what a crash may leave at any moment.
-use Rattle.std.proofs.Common.{◌≡◌, ◌≤◌, ◌∙◌, inl, inr, refl, ℕ, List, length, Option, Some, None, IsSome, IfSome, arith}
+use Rattle.std.proofs.Common.{◌≤◌, ◌∙◌, refl, ℕ, List, length, Option, Some, None, IsSome, IfSome}
 use Rattle.disk_model.specs.Changes.{Any, OnlyAt, Becomes}
 use Rattle.disk_model.specs.Logs.{Image, Outcomes, Follows, Settled}
-use Rattle.disk_model.specs.Moments.{Elapses, Throughout}
-use Rattle.disk_model.proofs.MomentsLemmas.{throughout_first, throughout_more}
+use Rattle.disk_model.specs.Moments.{Throughout}
 use Rattle.frame_log.specs.Standing.{Changed, SparesOthers}
 use Rattle.frame_log.proofs.Stretches.{throughout_weaker, throughout_then}
 
@@ -73,9 +72,9 @@ pub spares_more : {D : Type 0} (seen : D → Option Image) (may_leave : D → Ou
 spares_more seen may_leave moment left_since file old mid new counts first second = record {
   reads = becomes_any_then file (seen old) (seen mid) (seen new) first.reads second.reads;
   images = throughout_then _ _ _ _ _ _ _ first.images (throughout_weaker _ _ _ _ (OneLog file (may_leave mid)) (OneLog file (may_leave old)) second.images (λ c from.
-    let (d, was, at) = from in
-    let (e, before, then) = first.images.each d (counts (moment old) d first.images.later was) in
-    (e, before, record { here = tt; others = λ other apart. at.others other apart ∙ then.others other apart })));
+      let (d, was, at) = from in
+      let (e, before, then) = first.images.each d (counts (moment old) d first.images.later was) in
+      (e, before, record { here = tt; others = λ other apart. at.others other apart ∙ then.others other apart })));
 }
 
 -- each image that is a change of one that has A has B

@@ -2,3 +2,6 @@ pub mod Stretches
 pub mod Changes
 pub mod Bytes
 pub mod Steps
+pub mod ReadLemmas
+pub mod FrameLemmas
+pub mod ScanLemmas

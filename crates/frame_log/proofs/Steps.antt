@@ -1,5 +1,5 @@
 -- The steps of a log: a frame behind its gate, the gate opened or closed, and a cut behind it.
-use Rattle.std.proofs.Common.{◌≡◌, ◌≢◌, refl, ◌≤◌, ◌^◌, ◌+◌, ◌∙◌, inl, inr, sym, subst, ap, ℕ, List, [], ◌∷◌, ◌++◌, length, Option, IsSome, IfSome, arith}
+use Rattle.std.proofs.Common.{◌≡◌, ◌≢◌, refl, ◌≤◌, ◌^◌, ◌+◌, inl, subst, ℕ, List, [], ◌∷◌, ◌++◌, length, Option, IsSome, IfSome}
 use Rattle.disk_model.specs.Changes.{OnlyAt, Becomes}
 use Rattle.disk_model.specs.Logs.{Image, Outcomes, Writes, Torn, MayCut, Settled}
 use Rattle.disk_model.specs.Moments.{Throughout}
@@ -8,7 +8,6 @@ use Rattle.frame_log.specs.Standing.{Changed, Leaves}
 use Rattle.frame_log.specs.declared.frame.TheConstants.{OPEN, CLOSED}
 use Rattle.frame_log.specs.declared.state.State.{State}
 use Rattle.frame_log.specs.declared.state.State.TheVariants.{Good, Down, Touched}
-use Rattle.frame_log.proofs.Stretches.{throughout_weaker, throughout_then}
 use Rattle.frame_log.proofs.Changes.{each_changed, settled_change}
 use Rattle.frame_log.proofs.Bytes.{torn_behind, staged, gate_torn, gate_opened, gate_closed, cut_kept, may_have}
 
@@ -17,6 +16,11 @@ pub leaves_good : (state : State) (kept more : List (List ℕ)) (bytes : List �
 leaves_good Good kept more bytes good has = has
 leaves_good Down kept more bytes good has = has
 leaves_good Touched kept more bytes good has = absurd (cc)
+
+pub good_leaves : (state : State) (kept more : List (List ℕ)) (bytes : List ℕ) → state ≡ Good → HasFrames kept bytes → Leaves state kept more bytes
+good_leaves Good kept more bytes good has = has
+good_leaves Down kept more bytes good has = has
+good_leaves Touched kept more bytes good has = absurd (cc)
 
 pub leaves_may : (state : State) (kept more : List (List ℕ)) (bytes : List ℕ) → Leaves state kept more bytes → MayHave kept more bytes
 leaves_may Good kept more bytes has = inl has

@@ -1,8 +1,8 @@
 -- The bytes of a log: frames between open gates, and the closed gate that ends them.
-use Rattle.std.specs.Prelude.{◌≡◌, ◌≢◌, ◌⊎◌, ℕ, ◌+◌, ◌^◌, ◌<◌, ◌≤◌, List, [], ◌∷◌, ◌++◌, length, Result, MatchResult}
+use Rattle.std.specs.Prelude.{◌≡◌, ◌≢◌, ◌⊎◌, ℕ, ◌^◌, ◌<◌, ◌≤◌, List, [], ◌∷◌, ◌++◌, length, Result, MatchResult}
 use Rattle.std.specs.List.{flat_map}
 use Rattle.std.specs.Int.{w64, to_be_bytes}
-use Rattle.frame_log.specs.declared.frame.TheConstants.{OPEN, CLOSED}
+use Rattle.frame_log.specs.declared.frame.TheConstants.{OPEN}
 
 -- what stands behind the open gate of a frame: the length of the body, and the body
 abbrev pub sized : List ℕ → List ℕ

@@ -1,5 +1,5 @@
 -- Where a log stands on a disk.
-use Rattle.std.specs.Prelude.{◌≡◌, ◌≢◌, ◌⊎◌, ℕ, ◌+◌, ◌^◌, ◌<◌, ◌≤◌, List, [], length, Option, IsSome, IfSome}
+use Rattle.std.specs.Prelude.{◌≡◌, ◌≢◌, ℕ, ◌+◌, ◌^◌, ◌<◌, ◌≤◌, List, [], length, Option, IsSome, IfSome}
 use Rattle.disk_model.specs.Changes.{Any, OnlyAt, Becomes}
 use Rattle.disk_model.specs.Logs.{Image, Outcomes}
 use Rattle.disk_model.specs.Moments.{Throughout}
@@ -67,3 +67,9 @@ file_of log = log.file
 -- this log of the image is as a change makes it of some image that was possible
 abbrev pub Changed : Outcomes → ℕ → (List ℕ → List ℕ → Type 0) → Outcomes
 Changed may_leave file change c = (d : Image) × may_leave d × change (d file) (c file)
+
+-- the disk was only read: nothing new may be left, at any moment
+pub record OnlyRead {D : Type 0} (seen : D → Option Image) (may_leave : D → Outcomes) (moment : D → ℕ) (left_since : D → ℕ → Outcomes) (old new : D) : Type 0 where
+  pub same : seen new ≡ seen old
+  pub fewer : (c : Image) → may_leave new c → may_leave old c
+  pub images : Throughout (moment old) (moment new) (left_since old) (left_since new) (may_leave old)

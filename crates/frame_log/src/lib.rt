@@ -4,9 +4,14 @@
 mod device;
 mod frame;
 mod log;
+mod reading;
 mod refusal;
+mod scanning;
 mod state;
+#[cfg(test)]
+mod tests;
 
 pub use frame::{CLOSED, Frame, OPEN};
 pub use log::Log;
 pub use refusal::{LogRefusal, ScanRefusal};
+pub use scanning::scan;

@@ -27,7 +27,21 @@ impl Log {
     ghost use Rattle.frame_log.specs.Frames.{MayHave};
     ghost use Rattle.frame_log.specs.Standing.{IsDown, IsEmpty, Takes, Refuses, ResetRefuses, IsWithin, Stands, Holds, SparesOthers, file_of};
     ghost use Rattle.frame_log.specs.declared.refusal.LogRefusal.TheVariants.{Fault};
-    ghost use Rattle.frame_log.specs.declared.state.State.TheVariants.{Touched};
+    ghost use Rattle.frame_log.specs.declared.state.State.TheVariants.{Good, Touched};
+
+    // The log whose last gate stands closed at this place.
+    pub(crate) fn ending(file: u8, end: u64) -> Log
+        requires file { file < LOG_COUNT }
+        requires end { end < 2 ^ 62 }
+        ensures place { (result.file ≡ file) × (result.end ≡ end) }
+        ensures good { result.state ≡ Good }
+    {
+        Log {
+            file,
+            end,
+            state: State::Good,
+        }
+    }
 
     /// Whether the log met a fault and wasn't revived.
     pub fn is_down(&self) -> bool
@@ -65,7 +79,7 @@ impl Log {
             → OnErr result (Stands D.seen D.may_leave self.new disk.new kept (frame.now ∷ [])) }
         ensures any_moment { (kept : List (List ℕ)) → Holds D.seen D.may_leave self.old disk.old kept
             → Throughout (D.moment disk.old) (D.moment disk.new) (D.left_since disk.old) (D.left_since disk.new)
-                (λ c. MayHave kept (frame.now ∷ []) (c (file_of self.old))) }
+            (λ c. MayHave kept (frame.now ∷ []) (c (file_of self.old))) }
         ensures others { SparesOthers D.seen D.may_leave D.moment D.left_since (file_of self.old) disk.old disk.new }
 
         ensures answer { MatchResult result (λ _. Takes self.old (length frame.now)) (Refuses self.old (length frame.now)) }
@@ -100,7 +114,7 @@ impl Log {
             → OnErr result (Stands D.seen D.may_leave self.new disk.new [] kept) }
         ensures any_moment { (kept : List (List ℕ)) → Holds D.seen D.may_leave self.old disk.old kept
             → Throughout (D.moment disk.old) (D.moment disk.new) (D.left_since disk.old) (D.left_since disk.new)
-                (λ c. MayHave [] kept (c (file_of self.old))) }
+            (λ c. MayHave [] kept (c (file_of self.old))) }
         ensures others { SparesOthers D.seen D.may_leave D.moment D.left_since (file_of self.old) disk.old disk.new }
 
         ensures answer { MatchResult result (λ _. (IsDown self.old → ⊥) × (IsDown self.new → ⊥))
@@ -135,7 +149,7 @@ impl Log {
             → OnErr result (Stands D.seen D.may_leave self.new disk.new kept more) }
         ensures any_moment { (kept more : List (List ℕ)) → Stands D.seen D.may_leave self.old disk.old kept more
             → Throughout (D.moment disk.old) (D.moment disk.new) (D.left_since disk.old) (D.left_since disk.new)
-                (λ c. MayHave kept more (c (file_of self.old))) }
+            (λ c. MayHave kept more (c (file_of self.old))) }
         ensures others { SparesOthers D.seen D.may_leave D.moment D.left_since (file_of self.old) disk.old disk.new }
 
         ensures answer { MatchResult result (λ _. IsDown self.new → ⊥) (λ refusal. (refusal ≡ Fault) × IsDown self.new) }
@@ -158,7 +172,7 @@ impl Log {
             → Stands D.seen D.may_leave self.new disk.new kept more }
         ensures any_moment { (kept more : List (List ℕ)) → Stands D.seen D.may_leave self.old disk.old kept more
             → Throughout (D.moment disk.old) (D.moment disk.new) (D.left_since disk.old) (D.left_since disk.new)
-                (λ c. MayHave kept more (c (file_of self.old))) }
+            (λ c. MayHave kept more (c (file_of self.old))) }
         ensures others { SparesOthers D.seen D.may_leave D.moment D.left_since (file_of self.old) disk.old disk.new }
         ensures shut { OnOk result (self.new.state ≢ Touched) }
         ensures down { IfErr result (λ refusal. (refusal ≡ Fault) × IsDown self.new) }

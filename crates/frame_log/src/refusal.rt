@@ -3,6 +3,7 @@ ghost use Rattle.std.specs.Prelude.{◌≡◌};
 ghost use Rattle.frame_log.specs.declared.refusal.LogRefusal.TheVariants.{Fault};
 
 use disk_model::Failed;
+use std::alloc::{AllocError, AllocFailed};
 
 /// Why a log refused a call.
 #[derive(Clone, Copy, Debug, PartialEq, Eq)]
@@ -32,4 +33,37 @@ pub enum ScanRefusal {
     Damaged { place: u64 },
     /// There was no memory for the bodies.
     Memory,
+}
+
+impl From<Failed> for ScanRefusal {
+    ghost use Rattle.std.specs.Prelude.{◌≡◌};
+    ghost use Rattle.frame_log.specs.declared.refusal.ScanRefusal.TheVariants.{Fault};
+
+    ghost from_gives = { λ _ refusal. refusal ≡ Fault };
+
+    fn from(_: Failed) -> ScanRefusal {
+        ScanRefusal::Fault
+    }
+}
+
+impl From<AllocError> for ScanRefusal {
+    ghost use Rattle.std.specs.Prelude.{◌≡◌};
+    ghost use Rattle.frame_log.specs.declared.refusal.ScanRefusal.TheVariants.{Memory};
+
+    ghost from_gives = { λ _ refusal. refusal ≡ Memory };
+
+    fn from(_: AllocError) -> ScanRefusal {
+        ScanRefusal::Memory
+    }
+}
+
+impl<T: Drop> From<AllocFailed<T>> for ScanRefusal {
+    ghost use Rattle.std.specs.Prelude.{◌≡◌};
+    ghost use Rattle.frame_log.specs.declared.refusal.ScanRefusal.TheVariants.{Memory};
+
+    ghost from_gives = { λ _ refusal. refusal ≡ Memory };
+
+    fn from(_: AllocFailed<T>) -> ScanRefusal {
+        ScanRefusal::Memory
+    }
 }

@@ -1,8 +1,6 @@
-use Rattle.std.proofs.Common.{◌≡◌, ◌≤◌, ◌+◌, ℕ, List, length, IfSome, rules, arith}
+use Rattle.std.proofs.Common.{◌≤◌, ◌+◌, ℕ, List, length, arith}
 use Rattle.std.proofs.lemmas.Grind.{common_steps}
-use Rattle.disk_model.specs.Changes.{OnlyAt, Becomes}
-use Rattle.disk_model.specs.Logs.{Image, Writes, Torn, Settled}
-use Rattle.disk_model.specs.Moments.{Throughout}
+use Rattle.disk_model.specs.Logs.{Writes, Torn}
 use Rattle.disk_model.proofs.LogsLemmas.{torn_same, whole_torn}
 use Rattle.disk_model.proofs.MomentsLemmas.{throughout_first, throughout_more}
 use Rattle.frame_log.specs.Standing.{Changed}
@@ -34,10 +32,10 @@ pub returns-in_err-write_at-clause-others : goal.returns-in_err-write_at-clause-
 returns-in_err-write_at-clause-others g c =
     let laws = g.met.D.Disk g.world.𝓛 g.world.𝓜 g.world.𝓡 ((λ s x. x), (λ x. x), (λ x. x), λ x. x) in
     record {
-  reads = becomes_any c.args.file (Torn c.args.place (length c.args.bytes.now)) _ _ c.in_err-write_at.ensures.broken;
-  images = throughout_first _ _ _ _ _ _ (OneLog c.args.file (g.D.Disk.may_leave c.args.disk.now)) (laws.only_now c.args.disk.now) c.write_at.ensures.time
-    (one_log_same c.args.file _) (one_log c.args.file _ _ _ c.write_at.ensures.crash);
-}
+      reads = becomes_any c.args.file (Torn c.args.place (length c.args.bytes.now)) _ _ c.in_err-write_at.ensures.broken;
+      images = throughout_first _ _ _ _ _ _ (OneLog c.args.file (g.D.Disk.may_leave c.args.disk.now)) (laws.only_now c.args.disk.now) c.write_at.ensures.time
+          (one_log_same c.args.file _) (one_log c.args.file _ _ _ c.write_at.ensures.crash);
+    }
 
 pub returns-in_err-sync-clause-others : goal.returns-in_err-sync-clause-others
 returns-in_err-sync-clause-others g c =

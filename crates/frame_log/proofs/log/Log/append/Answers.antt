@@ -1,10 +1,7 @@
-use Rattle.std.proofs.Common.{◌≡◌, ◌≤◌, ◌+◌, ◌^◌, ◌++◌, [], ◌∷◌, List, ℕ, length, inl, refl, ap, arith, length-append}
+use Rattle.std.proofs.Common.{◌≡◌, ◌≤◌, ◌+◌, ◌^◌, [], ◌∷◌, length, inl, refl, arith}
 use Rattle.std.proofs.lemmas.Result.{err_from_is_err_and}
 use Rattle.disk_model.specs.Changes.{Any}
-use Rattle.disk_model.specs.Logs.{Writes}
-use Rattle.disk_model.specs.Moments.{Throughout}
-use Rattle.frame_log.specs.Frames.{HasFrames, HasGate, MayHave, sized, framed}
-use Rattle.frame_log.specs.declared.frame.TheConstants.{OPEN, CLOSED}
+use Rattle.frame_log.specs.Frames.{HasFrames, HasGate, MayHave}
 use Rattle.frame_log.proofs.Bytes.{may_have, length-framed-push}
 use Rattle.frame_log.proofs.Stretches.{throughout_weaker, throughout_then}
 use Rattle.frame_log.proofs.Changes.{spares_more, told_after}

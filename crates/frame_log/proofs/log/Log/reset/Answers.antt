@@ -1,5 +1,5 @@
-use Rattle.std.proofs.Common.{◌≡◌, ◌≢◌, ◌<◌, [], List, ℕ, length, inl, inr, refl, subst, arith}
-use Rattle.frame_log.specs.Frames.{framed, HasFrames, MayHave}
+use Rattle.std.proofs.Common.{◌≡◌, ◌≢◌, ◌<◌, [], length, inl, inr, refl, subst, arith}
+use Rattle.frame_log.specs.Frames.{framed}
 use Rattle.frame_log.specs.Standing.{Holds}
 use Rattle.frame_log.proofs.Bytes.{none_framed, from_first}
 use Rattle.frame_log.proofs.Steps.{leaves_good}

@@ -1,4 +1,4 @@
-use Rattle.std.proofs.Common.{◌≡◌, ◌++◌, [], ◌∷◌, List, ℕ, inl, refl, subst, arith}
+use Rattle.std.proofs.Common.{inl, refl, subst}
 use Rattle.std.proofs.lemmas.Result.{err_from_is_err_and}
 use Rattle.disk_model.specs.Changes.{Any}
 use Rattle.frame_log.specs.Frames.{HasFrames, MayHave}
@@ -50,7 +50,7 @@ returns-clause-revived g c kept more stands =
     let mid = c.shut.ensures.stands kept more stands in
     let has : Each log.file (g.D.Disk.may_leave c.shut.new.disk) (HasFrames kept) = λ d was. leaves_shut log.state kept more (d log.file) c.in_ok-shut.ensures.shut (mid.images d was) in
     let all = cuts_behind g.D.Disk.seen g.D.Disk.may_leave g.D.Disk.moment g.D.Disk.left_since log.file log.end kept mid.at_end c.shut.new.disk c.keep.new.disk has (c.keep.ensures.cut mid.told) in
-    record { good = refl; stands = record { told = told_after log.file Any _ _ c.keep.ensures.others.reads mid.told; at_end = mid.at_end; images = at_last g.D.Disk.seen g.D.Disk.may_leave g.D.Disk.moment g.D.Disk.left_since log.file log.end kept mid.at_end (HasFrames kept) c.shut.new.disk c.keep.new.disk (laws.counts_now c.keep.new.disk) all; } }
+    record { good = refl; stands = record { told = told_after log.file Any _ _ c.keep.ensures.others.reads mid.told; at_end = mid.at_end; images = at_last g.D.Disk.seen g.D.Disk.may_leave g.D.Disk.moment g.D.Disk.left_since log.file log.end kept mid.at_end (HasFrames kept) c.shut.new.disk c.keep.new.disk (laws.counts_now c.keep.new.disk) all } }
 
 pub returns-clause-any_moment : goal.returns-clause-any_moment
 returns-clause-any_moment g c kept more stands =

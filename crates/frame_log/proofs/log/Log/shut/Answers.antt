@@ -1,6 +1,6 @@
-use Rattle.std.proofs.Common.{◌≡◌, ◌++◌, [], ◌∷◌, List, ℕ, inl, rules, arith}
+use Rattle.std.proofs.Common.{◌≡◌, inl, rules, arith}
 use Rattle.disk_model.specs.Changes.{Any}
-use Rattle.frame_log.specs.Frames.{HasFrames, HasGate, MayHave}
+use Rattle.frame_log.specs.Frames.{HasGate, MayHave}
 use Rattle.frame_log.specs.declared.state.State.TheVariants.{Touched}
 use Rattle.frame_log.proofs.Bytes.{may_have}
 use Rattle.frame_log.proofs.Stretches.{throughout_weaker}
