@@ -30,13 +30,17 @@ told_after file change None new is told = absurd (cc)
 told_after file change (Some a) None is told = absurd is
 told_after file change (Some a) (Some b) is told = refl
 
--- what a change makes of a log's length
+-- what a change makes of a log
+pub becomes_so : (file : ℕ) (change : Change) (P Q : List ℕ → Type 0) (old new : Option Image) → ((a b : List ℕ) → change a b → P a → Q b)
+    → Becomes (OnlyAt file change) old new → IfSome old (λ image. P (image file)) → IfSome new (λ image. Q (image file))
+becomes_so file change P Q None None makes is has = tt
+becomes_so file change P Q None (Some b) makes is has = absurd (cc)
+becomes_so file change P Q (Some a) None makes is has = absurd is
+becomes_so file change P Q (Some a) (Some b) makes is has = makes (a file) (b file) is.here has
+
 pub reaches : (file m n : ℕ) (change : Change) (old new : Option Image) → ((a b : List ℕ) → change a b → m ≤ length a → n ≤ length b)
     → Becomes (OnlyAt file change) old new → IfSome old (λ image. m ≤ length (image file)) → IfSome new (λ image. n ≤ length (image file))
-reaches file m n change None None keeps is long = tt
-reaches file m n change None (Some b) keeps is long = absurd (cc)
-reaches file m n change (Some a) None keeps is long = absurd is
-reaches file m n change (Some a) (Some b) keeps is long = keeps (a file) (b file) is.here long
+reaches file m n change old new keeps is long = becomes_so file change (λ a. m ≤ length a) (λ b. n ≤ length b) old new keeps is long
 
 module _ (file : ℕ) (change : Change) (old mid : Outcomes) (follows : Follows (OnlyAt file change) old mid) where
   pub one_log : (c : Image) → mid c → OneLog file old c

@@ -39,6 +39,10 @@ ResetRefuses log Fault = log.state ≡ Good
 abbrev pub IsWithin : Log → Option Image → Type 0
 IsWithin log seen = IfSome seen (λ image. log.end + 1 ≤ length (image log.file))
 
+-- where it is told, nothing stands behind the log's last gate, nor after a crash
+abbrev pub IsTrimmed : Log → Option Image → Outcomes → Type 0
+IsTrimmed log seen may_leave = IfSome seen (λ _. (c : Image) → may_leave c → length (c log.file) ≡ log.end + 1)
+
 -- what a crash may leave of a log: the frames that are kept, and where its gate was touched perhaps more
 abbrev pub Leaves : State → List (List ℕ) → List (List ℕ) → List ℕ → Type 0
 Leaves Good kept more = HasFrames kept

@@ -35,6 +35,7 @@ pub(crate) fn keep<D: Disk>(disk: &mut D, file: u8, len: u64) -> Result<(), Fail
     requires len { IfSome (D.seen disk.old) (λ image. len ≤ length (image file)) }
     requires end { len ≤ 2 ^ 62 }
     ensures longer { IfSome (D.seen disk.new) (λ image. len ≤ length (image file)) }
+    ensures trimmed { OnOk result (IfSome (D.seen disk.new) (λ _. (c : Image) → D.may_leave disk.new c → length (c file) ≡ len)) }
     ensures others { SparesOthers D.seen D.may_leave D.moment D.left_since file disk.old disk.new }
     ensures cut { IsSome (D.seen disk.old) → Throughout (D.moment disk.old) (D.moment disk.new)
         (D.left_since disk.old) (D.left_since disk.new) (Changed (D.may_leave disk.old) file (MayCut len)) }

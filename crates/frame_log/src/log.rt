@@ -25,7 +25,7 @@ impl Log {
     ghost use Rattle.disk_model.specs.Causes.{Rose};
     ghost use Rattle.disk_model.specs.Moments.{Throughout};
     ghost use Rattle.frame_log.specs.Frames.{MayHave};
-    ghost use Rattle.frame_log.specs.Standing.{IsDown, IsEmpty, Takes, Refuses, ResetRefuses, IsWithin, Stands, Holds, SparesOthers, file_of};
+    ghost use Rattle.frame_log.specs.Standing.{IsDown, IsEmpty, Takes, Refuses, ResetRefuses, IsWithin, IsTrimmed, Stands, Holds, SparesOthers, file_of};
     ghost use Rattle.frame_log.specs.declared.refusal.LogRefusal.TheVariants.{Fault};
     ghost use Rattle.frame_log.specs.declared.state.State.TheVariants.{Good, Touched};
 
@@ -117,6 +117,8 @@ impl Log {
             (λ c. MayHave [] kept (c (file_of self.old))) }
         ensures others { SparesOthers D.seen D.may_leave D.moment D.left_since (file_of self.old) disk.old disk.new }
 
+        ensures trimmed { OnOk result ((IsEmpty self.old → ⊥) → IsTrimmed self.new (D.seen disk.new) (D.may_leave disk.new)) }
+
         ensures answer { MatchResult result (λ _. (IsDown self.old → ⊥) × (IsDown self.new → ⊥))
             (λ refusal. ResetRefuses self.old refusal × IsDown self.new) }
         ensures same { IsDown self.old ⊎ IsEmpty self.old → (self.new ≡ self.old) × (disk.new ≡ disk.old) }
@@ -151,6 +153,8 @@ impl Log {
             → Throughout (D.moment disk.old) (D.moment disk.new) (D.left_since disk.old) (D.left_since disk.new)
             (λ c. MayHave kept more (c (file_of self.old))) }
         ensures others { SparesOthers D.seen D.may_leave D.moment D.left_since (file_of self.old) disk.old disk.new }
+
+        ensures trimmed { OnOk result (IsTrimmed self.new (D.seen disk.new) (D.may_leave disk.new)) }
 
         ensures answer { MatchResult result (λ _. IsDown self.new → ⊥) (λ refusal. (refusal ≡ Fault) × IsDown self.new) }
         ensures file { file_of self.new ≡ file_of self.old }

@@ -1,10 +1,11 @@
-use Rattle.std.proofs.Common.{◌≡◌, ◌≤◌, ℕ, List, length, inl, ⊎_elim, arith}
+use Rattle.std.proofs.Common.{◌∙◌, ap, IfSome, ◌≡◌, ◌≤◌, ℕ, List, length, inl, ⊎_elim, arith}
 use Rattle.std.proofs.lemmas.List.{length-take}
 use Rattle.disk_model.specs.Logs.{Cuts, MayCut}
 use Rattle.disk_model.proofs.LogsLemmas.{cut_same}
 use Rattle.disk_model.proofs.MomentsLemmas.{throughout_first, throughout_more}
 use Rattle.frame_log.specs.Standing.{Changed}
-use Rattle.frame_log.proofs.Changes.{reaches, OneLog, becomes_any, one_log, one_change, one_log_more, one_log_same, settled_change}
+use Rattle.frame_log.proofs.Changes.{becomes_so, reaches, OneLog, becomes_any, one_log, one_change, one_log_more, one_log_same, settled_change}
+use Rattle.frame_log.proofs.ReadLemmas.{if_some_both}
 use Rattle.frame_log.proofs.device.keep.Goals as goal
 
 cut_longer : (len : ℕ) (a b : List ℕ) → Cuts len a b → len ≤ length a → len ≤ length b
@@ -81,3 +82,12 @@ returns-clause-cut g c told =
     throughout_more _ _ _ _ _ _ _ _ first c.sync.ensures.time
     (settled_change c.args.file (Cuts c.args.len) _ _ _ _ _ told (laws.reads_now c.args.disk.now)
     c.in_ok-cut.ensures.cut (rw c.sync.ensures.seen at c.in_ok-sync.ensures.settled) (cut_done c.args.len))
+
+cut_length : (len : ℕ) (a b : List ℕ) → Cuts len a b → len ≤ length a → length b ≡ len
+cut_length len a b is long = rw is (omega (arith, long, length-take len a))
+
+pub returns-clause-trimmed : goal.returns-clause-trimmed
+returns-clause-trimmed g c =
+    let long : IfSome (g.D.Disk.seen c.sync.new.self) (λ image. length (image c.args.file) ≡ c.args.len) =
+    rw c.sync.ensures.seen (becomes_so c.args.file (Cuts c.args.len) (λ a. c.args.len ≤ length a) (λ b. length b ≡ c.args.len) _ _ (cut_length c.args.len) c.in_ok-cut.ensures.cut c.requires.len) in
+    if_some_both (g.D.Disk.seen c.sync.new.self) long c.in_ok-sync.ensures.settled (λ image is sure d left. ap length (sure d left) ∙ is)
