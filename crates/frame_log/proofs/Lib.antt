@@ -5,3 +5,4 @@ pub mod Steps
 pub mod ReadLemmas
 pub mod FrameLemmas
 pub mod ScanLemmas
+pub mod OneLemmas

@@ -1,3 +1,4 @@
 pub mod Frames
 pub mod Standing
 pub mod Scanned
+pub mod Laws

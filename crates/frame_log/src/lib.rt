@@ -3,6 +3,7 @@
 
 mod device;
 mod frame;
+mod laws;
 mod log;
 mod reading;
 mod refusal;
@@ -12,6 +13,7 @@ mod state;
 mod tests;
 
 pub use frame::{CLOSED, Frame, OPEN};
+pub use laws::bytes_say_one_thing;
 pub use log::Log;
 pub use refusal::{LogRefusal, ScanRefusal};
 pub use scanning::scan;
