@@ -1,0 +1,54 @@
+-- How far a scan has come.
+use Rattle.std.proofs.Common.{◌≡◌, ◌≤◌, ◌<◌, ◌^◌, ◌+◌, ◌∙◌, refl, sym, ap, ℕ, List, [], ◌∷◌, ◌++◌, length, drop, Option, Some, None, IsSome, IfSome, arith}
+use Rattle.std.proofs.lemmas.List.{drop-drop, drop_at}
+use Rattle.disk_model.specs.Logs.{Image, Outcomes, Settled}
+use Rattle.frame_log.specs.Frames.{framed, open_frame, HasFrames}
+use Rattle.frame_log.specs.Standing.{OnlyRead}
+use Rattle.frame_log.specs.Scanned.{EndsAt, BeginsWith}
+use Rattle.frame_log.proofs.Bytes.{framed-push, length-sized}
+
+-- these frames were read, and the next gate stands here
+pub record IsSeen (bodies : List (List ℕ)) (end len : ℕ) (bytes : List ℕ) : Type 0 where
+  pub all : len ≡ length bytes
+  pub front : bytes ≡ framed bodies ++ drop end bytes
+
+pub record IsScanned {D : Type 0} (seen : D → Option Image) (may_leave : D → Outcomes) (moment : D → ℕ) (left_since : D → ℕ → Outcomes)
+    (faults : D → ℕ) (first now : D) (file len end : ℕ) (bodies : List (List ℕ)) : Type 0 where
+  pub read : OnlyRead seen may_leave moment left_since first now
+  pub later : faults first ≤ faults now
+  pub inside : end < len
+  pub short : len ≤ 2 ^ 62
+  pub at_end : end ≡ length (framed bodies)
+  pub told : IfSome (seen first) (λ image. IsSeen bodies end len (image file))
+
+pub seen_first : (bytes : List ℕ) (len : ℕ) → len ≡ length bytes → IsSeen [] 0 len bytes
+seen_first bytes len all = record { all = all; front = refl }
+
+pub seen_more : (bodies : List (List ℕ)) (end next len : ℕ) (bytes body : List ℕ) → end ≡ length (framed bodies) → next ≡ end + 9 + length body → IsSeen bodies end len bytes
+    → BeginsWith body (drop end bytes) → IsSeen (bodies ++ body ∷ []) next len bytes
+seen_more bodies end next len bytes body at_end is seen begins =
+    let long : length (open_frame body) ≡ 9 + length body = omega (arith, length-sized body) in
+    let rest : drop next bytes ≡ begins.behind =
+    ap (λ (k : ℕ). drop k bytes) (omega (arith, is, long))
+    ∙ sym (drop-drop (length (open_frame body)) end bytes)
+    ∙ ap (λ (l : List ℕ). drop (length (open_frame body)) l) begins.whole
+    ∙ drop_at (open_frame body) begins.behind (length (open_frame body)) refl in
+    record {
+      all = seen.all;
+      front = seen.front ∙ ap (λ (l : List ℕ). framed bodies ++ l) begins.whole ∙ sym (framed-push bodies body begins.behind) ∙ ap (λ (l : List ℕ). framed (bodies ++ body ∷ []) ++ l) (sym rest);
+    }
+
+pub seen_whole : (bodies : List (List ℕ)) (end len : ℕ) (bytes : List ℕ) → len ≤ 2 ^ 62 → IsSeen bodies end len bytes → EndsAt (drop end bytes) → HasFrames bodies bytes
+seen_whole bodies end len bytes short seen ends = record {
+  gate = ends.gate;
+  behind = ends.behind;
+  whole = seen.front ∙ ap (λ (l : List ℕ). framed bodies ++ l) ends.whole;
+  closed = ends.closed;
+  short = omega (arith, seen.all, short);
+}
+
+-- where each image has what is read, each has the frames
+pub settled_frames : (seen : Option Image) (may_leave : Outcomes) (file : ℕ) (bodies : List (List ℕ)) → IsSome seen → IfSome seen (λ image. HasFrames bodies (image file))
+    → Settled file seen may_leave → (c : Image) → may_leave c → HasFrames bodies (c file)
+settled_frames None may_leave file bodies told has settled c left = absurd (cc)
+settled_frames (Some image) may_leave file bodies told has settled c left = rw (settled c left) has

@@ -1,0 +1,20 @@
+-- Stretches of time, one after the other.
+use Rattle.std.proofs.Common.{inl, inr, ⊎_elim, ℕ, arith}
+use Rattle.disk_model.specs.Logs.{Image, Outcomes}
+use Rattle.disk_model.specs.Moments.{Throughout}
+
+pub throughout_weaker : (before now : ℕ) (past since : ℕ → Outcomes) (P Q : Image → Type 0)
+    → Throughout before now past since P → ((c : Image) → P c → Q c) → Throughout before now past since Q
+throughout_weaker before now past since P Q all is = record {
+  later = all.later;
+  each = λ c left. is c (all.each c left);
+  earlier = λ t c le left. ⊎_elim (λ then. inl then) (λ p. inr (is c p)) (all.earlier t c le left);
+}
+
+pub throughout_then : (before middle now : ℕ) (past between since : ℕ → Outcomes) (P : Image → Type 0)
+    → Throughout before middle past between P → Throughout middle now between since P → Throughout before now past since P
+throughout_then before middle now past between since P first second = record {
+  later = omega (arith, first.later, second.later);
+  each = λ c left. ⊎_elim (λ then. first.each c then) (λ p. p) (second.earlier before c first.later left);
+  earlier = λ t c le left. ⊎_elim (λ then. first.earlier t c le then) (λ p. inr p) (second.earlier t c (omega (arith, le, first.later)) left);
+}

@@ -1,0 +1,4 @@
+pub mod Frames
+pub mod Standing
+pub mod Scanned
+pub mod Laws

@@ -1,0 +1,19 @@
+//! A log of frames on a disk. A crash at any moment leaves the frames from before or those with the new one.
+#![tactic(auto)]
+
+mod device;
+mod frame;
+mod laws;
+mod log;
+mod reading;
+mod refusal;
+mod scanning;
+mod state;
+#[cfg(test)]
+mod tests;
+
+pub use frame::{CLOSED, Frame, OPEN};
+pub use laws::bytes_say_one_thing;
+pub use log::Log;
+pub use refusal::{LogRefusal, ScanRefusal};
+pub use scanning::scan;

@@ -1,0 +1,59 @@
+// Reading from a log until a buffer is full.
+ghost use Rattle.std.specs.Prelude.{◌≡◌, ◌<◌, ◌≤◌, ◌+◌, ◌^◌, ℕ, length, take, drop, IsTrue, IfSome, IfOk};
+ghost use Rattle.disk_model.specs.declared.disk.TheConstants.{LOG_COUNT};
+ghost use Rattle.disk_model.specs.Causes.{HasCause};
+ghost use Rattle.frame_log.specs.Standing.{OnlyRead};
+ghost use Rattle.frame_log.specs.Scanned.{IsRead};
+
+use disk_model::{Disk, Failed};
+
+/// Fills `out` with the bytes from this place on. False where a read gave none, which only an untold disk does.
+pub(crate) fn fill<D: Disk>(
+    disk: &mut D,
+    file: u8,
+    place: u64,
+    out: &mut [u8],
+) -> Result<bool, Failed>
+    requires file { file < LOG_COUNT }
+    requires end { place + length out.old ≤ 2 ^ 62 }
+    requires within { IfSome (D.seen disk.old) (λ image. place + length out.old ≤ length (image file)) }
+    ensures whole { IfOk result (λ whole. IfSome (D.seen disk.old) (λ _. IsTrue whole)) }
+    ensures bytes { IfOk result (λ _. IfSome (D.seen disk.old) (λ image. out.new ≡ take (length out.old) (drop place (image file)))) }
+    ensures read { OnlyRead D.seen D.may_leave D.moment D.left_since disk.old disk.new }
+    ensures len { length out.new ≡ length out.old }
+    ensures cause { HasCause (D.faults disk.old) (D.faults disk.new) result }
+{
+    let mut done = 0;
+    while done < out.len() {
+        let next = read_more(disk, file, place, out, done)?;
+        if next == done {
+            return Ok(false);
+        }
+        done = next;
+    }
+    Ok(true)
+}
+
+// Reads on behind the bytes that are there. Gives how many are there then.
+fn read_more<D: Disk>(
+    disk: &mut D,
+    file: u8,
+    place: u64,
+    out: &mut [u8],
+    done: usize,
+) -> Result<usize, Failed>
+    requires file { file < LOG_COUNT }
+    requires end { place + length out.old ≤ 2 ^ 62 }
+    requires within { IfSome (D.seen disk.old) (λ image. place + length out.old ≤ length (image file)) }
+    requires more { done < length out.old }
+    ensures fits { IfOk result (λ n. (done ≤ n) × (n ≤ length out.old)) }
+    ensures on { IfOk result (λ n. IfSome (D.seen disk.old) (λ _. done < n)) }
+    ensures bytes { IfOk result (λ n. IfSome (D.seen disk.old) (λ image.
+        IsRead (image file) place done out.old → IsRead (image file) place n out.new)) }
+    ensures read { OnlyRead D.seen D.may_leave D.moment D.left_since disk.old disk.new }
+    ensures len { length out.new ≡ length out.old }
+    ensures cause { HasCause (D.faults disk.old) (D.faults disk.new) result }
+{
+    let count = disk.read_at(file, place + done as u64, &mut out[done..])?;
+    Ok(done + count)
+}
