@@ -4,3 +4,7 @@ pub mod Words
 pub mod Tens
 pub mod Levels
 pub mod Spots
+pub mod Fronts
+pub mod FoundNumbers
+pub mod FoundStrings
+pub mod FoundValues

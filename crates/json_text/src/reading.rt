@@ -1,4 +1,5 @@
-ghost use Rattle.std.specs.Prelude.{◌≡◌, ◌-◌};
+ghost use Rattle.std.specs.Prelude.{◌≡◌, ◌-◌, IfOk};
+ghost use Rattle.json_text.specs.Grammar.{IsJson};
 ghost use Rattle.json_text.specs.Reading.{Gives, text_read, placed, Answers};
 
 use crate::bad::JsonBad;
@@ -48,9 +49,10 @@ fn placed(len: usize, fault: Fault) -> JsonBad
     }
 }
 
-/// The tree whose text the bytes are, in time n log n: of members with one name the last value counts.
+/// The tree whose text the bytes are (RFC 8259), in time n log n: of members with one name the last value counts.
 pub fn read(alloc: Global, bytes: &[u8]) -> Result<Node, JsonBad>
-    ensures { Answers bytes.now result }
+    ensures found { IfOk result (λ v. IsJson bytes.now v) }
+    ensures answer { Answers bytes.now result }
 {
     match whole(alloc, bytes) {
         Ok(node) => Ok(node),
