@@ -121,21 +121,21 @@ pair_means a b c d e f g i others h l = rw (h, l) refl
 hex_small : (b : ℕ) → is_hex b ≡ true → b < 128
 hex_small b h = grind arith
 
-all_hex : (a b c d : Bool) → (a && b && c && d) ≡ true → (a ≡ true) × (b ≡ true) × (c ≡ true) × (d ≡ true)
+pub all_hex : (a b c d : Bool) → (a && b && c && d) ≡ true → (a ≡ true) × (b ≡ true) × (c ≡ true) × (d ≡ true)
 all_hex true true true true h = (refl, refl, refl, refl)
 all_hex true true true false h = absurd cc
 all_hex true true false d h = absurd cc
 all_hex true false c d h = absurd cc
 all_hex false b c d h = absurd cc
 
-unit_utf8 : (a b c d : ℕ) (others : List ℕ) → IsTrue (is_char (unit a b c d)) → IsUtf8 others → IsUtf8 (char_text (unit a b c d) ++ others)
+pub unit_utf8 : (a b c d : ℕ) (others : List ℕ) → IsTrue (is_char (unit a b c d)) → IsUtf8 others → IsUtf8 (char_text (unit a b c d) ++ others)
 unit_utf8 a b c d others h u =
     let k = all_hex (is_hex a) (is_hex b) (is_hex c) (is_hex d) h in
     cons_utf8 92 (117 ∷ a ∷ b ∷ c ∷ d ∷ others) (omega arith)
     (cons_utf8 117 (a ∷ b ∷ c ∷ d ∷ others) (omega arith)
     (cons_utf8 a (b ∷ c ∷ d ∷ others) (hex_small a k.0) (cons_utf8 b (c ∷ d ∷ others) (hex_small b k.1) (cons_utf8 c (d ∷ others) (hex_small c k.2) (cons_utf8 d others (hex_small d k.3) u)))))
 
-short_small : (b c : ℕ) → short_escape b ≡ Some c → (b < 128) × (c < 128)
+pub short_small : (b c : ℕ) → short_escape b ≡ Some c → (b < 128) × (c < 128)
 short_small b c h = (grind (arith, nat_tests), grind (arith, nat_tests))
 
 -- a backslash and a letter

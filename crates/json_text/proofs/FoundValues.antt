@@ -279,7 +279,7 @@ flat_ok lead.Number bytes v rest e h = scalar_ok lead.Number bytes v rest e h
 flat_ok lead.Other bytes v rest e h = scalar_ok lead.Other bytes v rest e h
 
 -- a value of one more level
-IsNested : (List ℕ → Node → Type 0) → List ℕ → Node → Type 0
+unfoldable pub IsNested : (List ℕ → Node → Type 0) → List ℕ → Node → Type 0
 IsNested IsText bytes v =
     IsScalar bytes v
     ⊎ ((items : List Node) × IsArray IsText bytes items × (v ≡ node.Items items))

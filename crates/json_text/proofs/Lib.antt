@@ -8,3 +8,7 @@ pub mod Fronts
 pub mod FoundNumbers
 pub mod FoundStrings
 pub mod FoundValues
+pub mod Spelled
+pub mod OnlyNumbers
+pub mod OnlyStrings
+pub mod OnlyValues

@@ -1,6 +1,7 @@
 ghost use Rattle.std.specs.Prelude.{◌≡◌, ◌-◌, IfOk};
+ghost use Rattle.doc_model.specs.declared.node.Node.{Node};
 ghost use Rattle.json_text.specs.Grammar.{IsJson};
-ghost use Rattle.json_text.specs.Reading.{Gives, text_read, placed, Answers};
+ghost use Rattle.json_text.specs.Reading.{Gives, text_read, placed, Answers, Takes};
 
 use crate::bad::JsonBad;
 use crate::fault::{Fault, Stop};
@@ -52,6 +53,7 @@ fn placed(len: usize, fault: Fault) -> JsonBad
 /// The tree whose text the bytes are (RFC 8259), in time n log n: of members with one name the last value counts.
 pub fn read(alloc: Global, bytes: &[u8]) -> Result<Node, JsonBad>
     ensures found { IfOk result (λ v. IsJson bytes.now v) }
+    ensures only { (v : Node) → IsJson bytes.now v → Takes v result }
     ensures answer { Answers bytes.now result }
 {
     match whole(alloc, bytes) {
