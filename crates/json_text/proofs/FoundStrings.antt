@@ -54,7 +54,7 @@ hex_by : (b : ℕ) (bytes : List ℕ) (value : ℕ) (rest : List ℕ) (t : Bool)
 hex_by b bytes value rest true e h r = record { digit = b; is = e; worth = cc; spelled = ap (λ (x : List ℕ). b ∷ x) r }
 hex_by b bytes value rest false e h r = absurd cc
 
-hex_ok : (bytes : List ℕ) (value : ℕ) (rest : List ℕ) → hex_at bytes ≡ Ok (value, rest) → Hex bytes value rest
+pub hex_ok : (bytes : List ℕ) (value : ℕ) (rest : List ℕ) → hex_at bytes ≡ Ok (value, rest) → Hex bytes value rest
 unfolding hex_at
 hex_ok [] value rest h = absurd cc
 hex_ok (b ∷ bytes) value rest h =
@@ -302,7 +302,7 @@ run_by bytes run rest true f e h =
       spelled = sym (take-append-drop n bytes) ∙ ap (λ (t : List ℕ). t ++ drop n bytes) (made ∙ sym (run_text run)) ∙ ap (λ (t : List ℕ). flat_map char_text (map plain run) ++ t) left;
     }
 
-run_is : (bytes run rest : List ℕ) → run_at bytes ≡ Ok (run, rest) → Chars bytes run rest
+pub run_is : (bytes run rest : List ℕ) → run_at bytes ≡ Ok (run, rest) → Chars bytes run rest
 unfolding run_at
 run_is bytes run rest h =
     let n = prefix_len is_plain bytes in

@@ -40,7 +40,7 @@ separator_by closing b bytes again rest false true e f h =
     ap (λ (x : ℕ). x ∷ bytes) (eqb-true b closing f) ∙ ap (λ (x : List ℕ). closing ∷ x) left ∙ ap (λ (x : Bool). cond x 44 closing ∷ rest) made
 separator_by closing b bytes again rest false false e f h = absurd cc
 
-separator_ok : (closing : ℕ) (bytes : List ℕ) (again : Bool) (rest : List ℕ) → separator_at closing bytes ≡ Ok (again, rest) → bytes ≡ cond again 44 closing ∷ rest
+pub separator_ok : (closing : ℕ) (bytes : List ℕ) (again : Bool) (rest : List ℕ) → separator_at closing bytes ≡ Ok (again, rest) → bytes ≡ cond again 44 closing ∷ rest
 unfolding separator_at
 separator_ok closing [] again rest h = absurd cc
 separator_ok closing (b ∷ bytes) again rest h = separator_by closing b bytes again rest (b == 44) (b == closing) refl refl h
@@ -113,7 +113,7 @@ inner_by {Y = Y} IsPart closing step ok bytes ys rest (Some behind) e h =
 -- ---- values
 
 -- white space, a text and white space
-padded : (IsText : List ℕ → Type 0) (bytes behind : List ℕ) → Front IsText (behind_white bytes) behind → Front (Padded IsText) bytes (behind_white behind)
+pub padded : (IsText : List ℕ → Type 0) (bytes behind : List ℕ) → Front IsText (behind_white bytes) behind → Front (Padded IsText) bytes (behind_white behind)
 padded IsText bytes behind f =
     let v = whites bytes in
     let w = whites behind in
@@ -131,13 +131,13 @@ padded IsText bytes behind f =
     regroup a b c rest = simp append_assoc
 
 -- what is read by this is a text of that
-Reads : (List ℕ → Read Node) → (List ℕ → Node → Type 0) → Type 0
+unfoldable pub Reads : (List ℕ → Read Node) → (List ℕ → Node → Type 0) → Type 0
 Reads value IsText = (bytes : List ℕ) (v : Node) (rest : List ℕ) → value bytes ≡ Ok (v, rest) → Front (λ text. IsText text v) bytes rest
 
-abbrev IsItem : (List ℕ → Node → Type 0) → List ℕ → Node → Type 0
+abbrev pub IsItem : (List ℕ → Node → Type 0) → List ℕ → Node → Type 0
 IsItem IsText part item = Padded (λ text. IsText text item) part
 
-item_ok : (value : List ℕ → Read Node) (IsText : List ℕ → Node → Type 0) → Reads value IsText →
+pub item_ok : (value : List ℕ → Read Node) (IsText : List ℕ → Node → Type 0) → Reads value IsText →
     (bytes : List ℕ) (ys : List Node) (again : Bool) (rest : List ℕ) → item_at value bytes ≡ Ok ((ys, again), rest) → Part (IsItem IsText) 93 bytes ys again rest
 unfolding item_at Reads
 item_ok value IsText reads bytes ys again rest h =
@@ -159,7 +159,7 @@ item_ok value IsText reads bytes ys again rest h =
     }
 
 -- a name, white space and a colon
-name_ok : (bytes name rest : List ℕ) → name_at (behind_white bytes) ≡ Ok (name, rest) → Front (λ part. Padded (λ text. IsString text (Some name)) part) bytes (58 ∷ rest)
+pub name_ok : (bytes name rest : List ℕ) → name_at (behind_white bytes) ≡ Ok (name, rest) → Front (λ part. Padded (λ text. IsString text (Some name)) part) bytes (58 ∷ rest)
 unfolding name_at
 name_ok bytes name rest h =
     let p = bound (byte_at 34 (behind_white bytes)) (λ text. text_at text >>= λ name. byte_at 58 (behind_white name.1) >>= λ rest. Ok (name.0, rest)) (name, rest) h in
@@ -177,7 +177,7 @@ name_ok bytes name rest h =
       spelled = f.spelled ∙ ap (λ (z : List ℕ). f.text ++ z) (byte_ok 58 (behind_white x.1) r.value r.first ∙ ap (λ (z : List ℕ). 58 ∷ z) left);
     }
 
-member_ok : (value : List ℕ → Read Node) (IsText : List ℕ → Node → Type 0) → Reads value IsText →
+pub member_ok : (value : List ℕ → Read Node) (IsText : List ℕ → Node → Type 0) → Reads value IsText →
     (bytes : List ℕ) (ys : List Member) (again : Bool) (rest : List ℕ) → member_at value bytes ≡ Ok ((ys, again), rest) → Part (IsMember IsText) 125 bytes ys again rest
 unfolding member_at Reads
 member_ok value IsText reads bytes ys again rest h =
@@ -212,16 +212,16 @@ members_ok value IsText reads bytes ys rest h = inner_by (IsMember IsText) 125 (
 
 -- what a value begins with
 
-quote_first : (b : ℕ) → lead_by b ≡ lead.Quote → b ≡ 34
+pub quote_first : (b : ℕ) → lead_by b ≡ lead.Quote → b ≡ 34
 quote_first b h = grind (arith, nat_tests)
 
-bracket_first : (b : ℕ) → lead_by b ≡ lead.Bracket → b ≡ 91
+pub bracket_first : (b : ℕ) → lead_by b ≡ lead.Bracket → b ≡ 91
 bracket_first b h = grind (arith, nat_tests)
 
-brace_first : (b : ℕ) → lead_by b ≡ lead.Brace → b ≡ 123
+pub brace_first : (b : ℕ) → lead_by b ≡ lead.Brace → b ≡ 123
 brace_first b h = grind (arith, nat_tests)
 
-by_first : (first : ℕ) (l : Lead) → ((b : ℕ) → lead_by b ≡ l → b ≡ first) → (lead.Other ≡ l → ⊥) → (bytes : List ℕ) → lead_of bytes ≡ l → bytes ≡ first ∷ drop 1 bytes
+pub by_first : (first : ℕ) (l : Lead) → ((b : ℕ) → lead_by b ≡ l → b ≡ first) → (lead.Other ≡ l → ⊥) → (bytes : List ℕ) → lead_of bytes ≡ l → bytes ≡ first ∷ drop 1 bytes
 by_first first l is other [] h = absurd (other h)
 by_first first l is other (b ∷ bytes) h = ap (λ (x : ℕ). x ∷ bytes) (is b h)
 
@@ -262,12 +262,12 @@ scalar_ok lead.Brace bytes v rest e h = absurd cc
 scalar_ok lead.Bracket bytes v rest e h = absurd cc
 scalar_ok lead.Other bytes v rest e h = absurd cc
 
-front_as : (P Q : List ℕ → Type 0) (bytes rest : List ℕ) → ((text : List ℕ) → P text → Q text) → Front P bytes rest → Front Q bytes rest
+pub front_as : (P Q : List ℕ → Type 0) (bytes rest : List ℕ) → ((text : List ℕ) → P text → Q text) → Front P bytes rest → Front Q bytes rest
 front_as P Q bytes rest to f = record { text = f.text; is = to f.text f.is; valid = f.valid; spelled = f.spelled }
 
 -- ---- values by how many enclose each other
 
-flat_ok : (l : Lead) (bytes : List ℕ) (v : Node) (rest : List ℕ) → lead_of bytes ≡ l → flat_by l bytes ≡ Ok (v, rest) → Front (λ text. IsScalar text v) bytes rest
+pub flat_ok : (l : Lead) (bytes : List ℕ) (v : Node) (rest : List ℕ) → lead_of bytes ≡ l → flat_by l bytes ≡ Ok (v, rest) → Front (λ text. IsScalar text v) bytes rest
 unfolding flat_by
 flat_ok lead.Bracket bytes v rest e h = absurd cc
 flat_ok lead.Brace bytes v rest e h = absurd cc
@@ -295,7 +295,7 @@ bracketed opening closing inner behind bytes e = ap (λ (z : List ℕ). opening 
 bracketed_utf8 : (opening closing : ℕ) (inner : List ℕ) → opening < 128 → closing < 128 → IsUtf8 inner → IsUtf8 (opening ∷ inner ++ closing ∷ [])
 bracketed_utf8 opening closing inner o c h = cons_utf8 opening (inner ++ closing ∷ []) o (IsUtf8-append inner (closing ∷ []) h (cons_utf8 closing [] c IsUtf8-nil))
 
-nested_ok : (value : List ℕ → Read Node) (IsText : List ℕ → Node → Type 0) → Reads value IsText → (l : Lead) (bytes : List ℕ) (v : Node) (rest : List ℕ) →
+pub nested_ok : (value : List ℕ → Read Node) (IsText : List ℕ → Node → Type 0) → Reads value IsText → (l : Lead) (bytes : List ℕ) (v : Node) (rest : List ℕ) →
     lead_of bytes ≡ l → value_by value l bytes ≡ Ok (v, rest) → Front (λ text. IsNested IsText text v) bytes rest
 unfolding value_by IsNested
 nested_ok value IsText reads lead.Bracket bytes v rest e h =

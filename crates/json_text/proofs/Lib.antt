@@ -12,3 +12,6 @@ pub mod Spelled
 pub mod OnlyNumbers
 pub mod OnlyStrings
 pub mod OnlyValues
+pub mod Cuts
+pub mod CutStrings
+pub mod CutValues

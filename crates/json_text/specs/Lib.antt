@@ -4,3 +4,4 @@ pub mod Strings
 pub mod Grammar
 pub mod Places
 pub mod Reading
+pub mod Faults

@@ -1,4 +1,5 @@
 /// Why bytes are no JSON text that is taken, and where: an offset from 0, the first one that reading from the left meets.
+/// What stands before it begins some JSON text.
 #[derive(Clone, Copy, Debug, PartialEq, Eq)]
 pub enum JsonBad {
     /// Where a byte stands, or the bytes end, that can't go on what was read.

@@ -1,5 +1,6 @@
-ghost use Rattle.std.specs.Prelude.{◌≡◌, ◌-◌, IfOk};
+ghost use Rattle.std.specs.Prelude.{◌≡◌, ◌-◌, IfOk, IfErr};
 ghost use Rattle.doc_model.specs.declared.node.Node.{Node};
+ghost use Rattle.json_text.specs.Faults.{FaultAt};
 ghost use Rattle.json_text.specs.Grammar.{IsJson};
 ghost use Rattle.json_text.specs.Reading.{Gives, text_read, placed, Answers, Takes};
 
@@ -54,6 +55,7 @@ fn placed(len: usize, fault: Fault) -> JsonBad
 pub fn read(alloc: Global, bytes: &[u8]) -> Result<Node, JsonBad>
     ensures found { IfOk result (λ v. IsJson bytes.now v) }
     ensures only { (v : Node) → IsJson bytes.now v → Takes v result }
+    ensures fault { IfErr result (λ e. FaultAt bytes.now e) }
     ensures answer { Answers bytes.now result }
 {
     match whole(alloc, bytes) {
