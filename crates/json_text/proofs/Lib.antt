@@ -15,3 +15,4 @@ pub mod OnlyValues
 pub mod Cuts
 pub mod CutStrings
 pub mod CutValues
+pub mod Written

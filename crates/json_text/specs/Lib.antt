@@ -5,3 +5,4 @@ pub mod Grammar
 pub mod Places
 pub mod Reading
 pub mod Faults
+pub mod Canonical
