@@ -4,3 +4,15 @@ pub mod Words
 pub mod Tens
 pub mod Levels
 pub mod Spots
+pub mod Fronts
+pub mod FoundNumbers
+pub mod FoundStrings
+pub mod FoundValues
+pub mod Spelled
+pub mod OnlyNumbers
+pub mod OnlyStrings
+pub mod OnlyValues
+pub mod Cuts
+pub mod CutStrings
+pub mod CutValues
+pub mod Written

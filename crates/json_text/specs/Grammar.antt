@@ -86,7 +86,7 @@ IsScalar bytes v =
     ⊎ ((text : List ℕ) × IsString bytes (Some text) × (v ≡ node.Text text))
 
 -- value (section 3), in which at most so many arrays and objects enclose each other
-abbrev pub IsValue : ℕ → List ℕ → Node → Type 0
+unfoldable pub IsValue : ℕ → List ℕ → Node → Type 0
 IsValue zero bytes v = IsScalar bytes v
 IsValue (suc depth) bytes v =
     IsScalar bytes v

@@ -4,3 +4,5 @@ pub mod Strings
 pub mod Grammar
 pub mod Places
 pub mod Reading
+pub mod Faults
+pub mod Canonical

@@ -300,3 +300,8 @@ placed len (fault.Number left) = bad.Number (len - left)
 abbrev pub Answers : List ℕ → Result Node JsonBad → Type 0
 Answers bytes (Ok v) = text_read bytes ≡ Ok v
 Answers bytes (Err e) = (e ≡ bad.Memory) ⊎ ((f : Fault) × (text_read bytes ≡ Err f) × (e ≡ placed (length bytes) f))
+
+-- the answer is this tree; want of memory is free
+abbrev pub Takes : Node → Result Node JsonBad → Type 0
+Takes v (Ok w) = w ≡ v
+Takes v (Err e) = e ≡ bad.Memory

@@ -1,5 +1,8 @@
-ghost use Rattle.std.specs.Prelude.{◌≡◌, ◌-◌};
-ghost use Rattle.json_text.specs.Reading.{Gives, text_read, placed, Answers};
+ghost use Rattle.std.specs.Prelude.{◌≡◌, ◌-◌, IfOk, IfErr};
+ghost use Rattle.doc_model.specs.declared.node.Node.{Node};
+ghost use Rattle.json_text.specs.Faults.{FaultAt};
+ghost use Rattle.json_text.specs.Grammar.{IsJson};
+ghost use Rattle.json_text.specs.Reading.{Gives, text_read, placed, Answers, Takes};
 
 use crate::bad::JsonBad;
 use crate::fault::{Fault, Stop};
@@ -48,9 +51,12 @@ fn placed(len: usize, fault: Fault) -> JsonBad
     }
 }
 
-/// The tree whose text the bytes are, in time n log n: of members with one name the last value counts.
+/// The tree whose text the bytes are (RFC 8259), in time n log n: of members with one name the last value counts.
 pub fn read(alloc: Global, bytes: &[u8]) -> Result<Node, JsonBad>
-    ensures { Answers bytes.now result }
+    ensures found { IfOk result (λ v. IsJson bytes.now v) }
+    ensures only { (v : Node) → IsJson bytes.now v → Takes v result }
+    ensures fault { IfErr result (λ e. FaultAt bytes.now e) }
+    ensures answer { Answers bytes.now result }
 {
     match whole(alloc, bytes) {
         Ok(node) => Ok(node),

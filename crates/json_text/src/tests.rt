@@ -1,4 +1,5 @@
 use super::*;
+use doc_model::Text;
 use std::test::*;
 
 fn bad(rt: &HostRuntime, bytes: &[u8]) -> Option<JsonBad> {
@@ -139,5 +140,38 @@ fn prefixes(rt: HostRuntime) {
         } else {
             assert_eq!(rt; fault, syntax(n as u64));
         }
+    }
+}
+
+fn rewritten(rt: &HostRuntime, bytes: &[u8]) -> Option<Text> {
+    let node = read(rt.alloc(), bytes).ok()?;
+    write(rt.alloc(), &node).ok()
+}
+
+#[test]
+fn canonical(rt: HostRuntime) {
+    let texts: [(&[u8], &str); 9] = [
+        (b" null ", "null"),
+        (b"[ true , false ]", "[true,false]"),
+        (b"-0.50e1", "-5"),
+        (b"-0", "0"),
+        (b"0.1000000000000000010", "0.100000000000000001"),
+        (b"99999999999999999999", "99999999999999999999"),
+        (
+            b"\"\\u0000\\u001F\\n\\/\\u00e9\"",
+            "\"\\u0000\\u001f\\n/é\"",
+        ),
+        (
+            b"{ \"a\" : 1.50, \"b\" : [ ], \"a\" : { } }",
+            "{\"a\":{},\"b\":[]}",
+        ),
+        (b"\"\\\\\\\"\\b\\t\\f\\r\"", "\"\\\\\\\"\\b\\t\\f\\r\""),
+    ];
+    for (text, wanted) in texts {
+        let found = rewritten(&rt, text);
+        assert!(rt;
+            matches!(&found, Some(t) if t.as_str() == wanted),
+            "{wanted}"
+        );
     }
 }
