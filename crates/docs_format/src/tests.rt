@@ -76,6 +76,7 @@ fn a_damaged_field_is_named_by_its_first_byte(rt: HostRuntime) {
     ];
     for (at, byte, place) in rows {
         let mut bytes = *RICH;
+        assert!(rt; at < bytes.len());
         bytes[at] = byte;
         assert_eq!(rt; place_of(rt.alloc(), &bytes), Some(place), "at {at}");
     }
