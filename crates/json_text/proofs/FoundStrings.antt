@@ -253,7 +253,7 @@ after_after : (front text : List ℕ) (o : Option (List ℕ)) → after front (a
 after_after front text None = refl
 after_after front text (Some x) = ap (λ (t : List ℕ). Some t) (sym (append_assoc front text x))
 
-run_means : (run : List ℕ) (others : List Char) → text_of (map plain run ++ others) ≡ after run (text_of others)
+pub run_means : (run : List ℕ) (others : List Char) → text_of (map plain run ++ others) ≡ after run (text_of others)
 run_means [] others = by (text_of others)
   where
     by : (o : Option (List ℕ)) → o ≡ after [] o
