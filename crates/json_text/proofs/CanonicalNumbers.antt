@@ -1,18 +1,18 @@
 -- The text of a number is worth that number.
-use Rattle.std.proofs.Common.{◌≡◌, ◌≢◌, ℕ, zero, suc, ℤ, pos, negsuc, ◌+◌, ◌-◌, ◌*◌, ◌/◌, ◌%◌, ◌^◌, ◌<◌, ◌≤◌, ◌==◌, ◌⊎◌, inl, inr, Bool, true, false, ◌&&◌, not, cond, List, [], ◌∷◌, ◌++◌, length, Option, Some, None, refl, sym, ap, subst, ◌∙◌, append_assoc, arith, ltb}
+use Rattle.std.proofs.Common.{◌≡◌, ℕ, zero, suc, ℤ, pos, negsuc, ◌+◌, ◌-◌, ◌*◌, ◌/◌, ◌%◌, ◌^◌, ◌<◌, ◌≤◌, ◌==◌, inl, inr, Bool, true, false, ◌&&◌, cond, List, [], ◌∷◌, ◌++◌, length, Option, Some, refl, sym, ap, subst, ◌∙◌, append_assoc, arith, ltb}
 use Rattle.std.proofs.lemmas.Bool.{cases_lt, ne_eqb, eqb-true, le-ltb, lt-ltb, ltb-true, and_from}
 use Rattle.std.proofs.lemmas.Fmt.{decimal_by_steps_wide}
-use Rattle.std.proofs.lemmas.List.{append-nil, length-append}
+use Rattle.std.proofs.lemmas.List.{append-nil}
 use Rattle.std.proofs.lemmas.List.Folds.{list_all-append}
 use Rattle.std.proofs.lemmas.List.Sums.{fold-append}
 use Rattle.std.proofs.lemmas.Nat.{pow-add}
 use Rattle.std.proofs.Math.Nat.{mul-le-mul_left, mul-mod_left, mul-div_cancel, mul_assoc}
-use Rattle.std.specs.Prelude.{IsTrue, int_lt, unsigned_abs}
+use Rattle.std.specs.Prelude.{int_lt}
 use Rattle.std.specs.Fmt.{decimal}
 use Rattle.std.specs.List.{list_all}
-use Rattle.json_text.specs.Numbers.{is_digit, digits_from, digits_value, is_int, fraction_text, exponent_text, Literal, IsLiteral, literal_text, whole_units, magnitude, with_sign, worth, IsNumber, signed}
+use Rattle.json_text.specs.Numbers.{is_digit, digits_from, digits_value, is_int, fraction_text, Literal, IsLiteral, whole_units, magnitude, with_sign, IsNumber, signed}
 use Rattle.json_text.specs.Canonical.{places_text, point_text, magnitude_text, units_text, is_decimal}
-use Rattle.json_text.proofs.Written.{ten_positive, no_places}
+use Rattle.json_text.proofs.Written.{ten_positive}
 
 digit_is : (d : ℕ) → d < 10 → is_digit (48 + d) ≡ true
 digit_is d lt = grind arith

@@ -1,19 +1,19 @@
 -- The canonical text of a tree is a text of that tree.
-use Rattle.std.proofs.Common.{◌≡◌, ℕ, ℤ, zero, suc, ◌+◌, ◌≤◌, ◌⊎◌, inl, inr, Bool, true, false, ◌&&◌, ◌||◌, not, cond, List, [], ◌∷◌, ◌++◌, length, map, fold, max, Option, Some, None, refl, sym, ap, subst, ◌∙◌, append_assoc, arith}
+use Rattle.std.proofs.Common.{◌≡◌, ℕ, ℤ, zero, suc, ◌+◌, ◌≤◌, inl, inr, Bool, true, false, ◌&&◌, ◌||◌, not, cond, List, [], ◌∷◌, ◌++◌, length, map, fold, Option, Some, None, refl, sym, ap, subst, ◌∙◌, append_assoc, arith}
 use Rattle.std.proofs.lemmas.List.{append-nil}
 use Rattle.std.proofs.lemmas.List.Folds.{list_all-map}
 use Rattle.std.proofs.lemmas.Str.{IsUtf8-from_is_utf8}
 use Rattle.std.specs.Prelude.{IsTrue}
 use Rattle.std.specs.List.{list_all, list_any}
 use Rattle.std.specs.Str.{IsUtf8, is_utf8, bytes_eq}
-use Rattle.doc_model.specs.declared.node.Node.{Node, map-Node}
+use Rattle.doc_model.specs.declared.node.Node.{Node}
 use Rattle.doc_model.specs.declared.node.Node.TheVariants as node
 use Rattle.doc_model.specs.declared.node.Node.TheOpen.{Node-F}
 use Rattle.doc_model.specs.declared.node.Node.TheFolds.{fold-roll-Node, ind-Node}
 use Rattle.doc_model.specs.declared.node.Node.TheViews.{roll-Node}
 use Rattle.doc_model.specs.Tree.{depth, depth_step, greatest, has_distinct_names, names_step, is_distinct, is_among}
 use Rattle.json_text.specs.Strings.{IsString}
-use Rattle.json_text.specs.Grammar.{Padded, Each, joined, Listed, IsArray, Member, IsMember, IsObject, put, last_values, IsScalar, IsValue, IsJson}
+use Rattle.json_text.specs.Grammar.{Padded, Each, joined, Listed, Member, IsMember, put, last_values, IsScalar, IsValue, IsJson}
 use Rattle.json_text.specs.Canonical.{node_step, node_text, member_text, quoted, units_text, is_decimal, values_step, has_values}
 use Rattle.json_text.specs.Places.{place_of}
 use Rattle.json_text.proofs.Spots.{put_new, place_behind, or_at}

@@ -1,6 +1,5 @@
-use Rattle.std.proofs.Common.{sym, ap, ◌∙◌, ◌++◌, ◌∷◌, ◌&&◌, true, ◌≡◌, List, ℕ, map}
+use Rattle.std.proofs.Common.{ap, ◌∙◌, ◌&&◌, true, ◌≡◌, map}
 use Rattle.std.specs.Prelude.{string_bytes}
-use Rattle.std.specs.List.{list_all}
 use Rattle.std.specs.Str.{is_utf8}
 use Rattle.std.proofs.lemmas.Bool.{and_from}
 use Rattle.json_text.specs.Grammar.{joined}
