@@ -1,5 +1,5 @@
 -- What a string that failed says of the bytes before the fault.
-use Rattle.std.proofs.Common.{◌≡◌, ℕ, zero, suc, ◌+◌, ◌-◌, ◌*◌, ◌<◌, ◌≤◌, ◌==◌, ◌⊎◌, inl, inr, Bool, true, false, ◌&&◌, cond, List, [], ◌∷◌, ◌++◌, length, take, drop, map, Option, Some, None, Result, Ok, Err, refl, sym, ap, subst, ◌∙◌, append_assoc, arith, min}
+use Rattle.std.proofs.Common.{◌≡◌, ℕ, zero, suc, ◌+◌, ◌*◌, ◌≤◌, ◌==◌, Bool, true, false, ◌&&◌, cond, List, [], ◌∷◌, ◌++◌, length, take, drop, map, Ok, Err, refl, sym, ap, subst, ◌∙◌, append_assoc, arith}
 use Rattle.std.proofs.lemmas.Bool.{eqb-true, and_from}
 use Rattle.std.proofs.lemmas.Grind.{flat_map-append}
 use Rattle.std.proofs.lemmas.List.{append-nil, take-append-drop, take-take, length-take}
@@ -11,12 +11,12 @@ use Rattle.std.specs.Char.{encode_utf8}
 use Rattle.std.specs.Str.Lossy.{utf8_valid_len}
 use Rattle.json_text.specs.declared.fault.Fault.{Fault}
 use Rattle.json_text.specs.declared.fault.Fault.TheVariants as fault
-use Rattle.json_text.specs.Strings.{is_plain, is_hex, hex_value, short_escape, Char, plain, short, unit, is_char, char_text, string_text}
+use Rattle.json_text.specs.Strings.{is_plain, is_hex, short_escape, Char, plain, short, unit, is_char, char_text}
 use Rattle.json_text.specs.Faults.{IsQuoted}
 use Rattle.json_text.specs.Reading.{◌>>=◌, Read, unexpected, or_fault, hex_of, hex_at, unit_at, char_at, escape_at, end_at, run_at, piece_at, text_at}
 use Rattle.json_text.proofs.Prefix.{prefix_passes}
 use Rattle.json_text.proofs.FoundStrings.{hex_ok, run_is, piece_ok, run_text, run_all}
-use Rattle.json_text.proofs.Cuts.{left_of, Cause, Cut, within, here, behind_here, cut_as, either_failed, ok_no_err, err_same, or_fault_err, FailedTurns, fails, spent, later, turns_err}
+use Rattle.json_text.proofs.Cuts.{left_of, Cause, Cut, within, here, behind_here, either_failed, ok_no_err, err_same, or_fault_err, FailedTurns, fails, spent, later, turns_err}
 
 -- ---- escapes
 

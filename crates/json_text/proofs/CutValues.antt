@@ -1,22 +1,19 @@
 -- What a text that isn't read says of the bytes before the fault and at it.
-use Rattle.std.proofs.Common.{◌≡◌, ℕ, zero, suc, ◌+◌, ◌-◌, ◌<◌, ◌≤◌, ◌==◌, ◌⊎◌, inl, inr, Bool, true, false, cond, List, [], ◌∷◌, ◌++◌, length, take, drop, Option, Some, None, Result, Ok, Err, refl, sym, ap, subst, ◌∙◌, append_assoc, arith}
-use Rattle.std.proofs.lemmas.Bool.{eqb-true}
+use Rattle.std.proofs.Common.{◌≡◌, ℕ, zero, suc, ◌-◌, ◌==◌, ◌⊎◌, inl, inr, Bool, true, false, cond, List, [], ◌∷◌, ◌++◌, length, take, drop, Option, Some, None, Ok, Err, refl, sym, ap, subst, ◌∙◌, append_assoc, arith}
 use Rattle.std.proofs.lemmas.List.{append-nil, length-append, take_at, drop_at}
-use Rattle.std.specs.Prelude.{IsTrue}
 use Rattle.doc_model.specs.declared.node.Node.{Node}
 use Rattle.doc_model.specs.declared.node.Node.TheVariants as node
-use Rattle.json_text.specs.declared.bad.JsonBad.{JsonBad}
 use Rattle.json_text.specs.declared.fault.Fault.{Fault}
 use Rattle.json_text.specs.declared.fault.Fault.TheVariants as fault
 use Rattle.json_text.specs.declared.lead.Lead.{Lead}
 use Rattle.json_text.specs.declared.lead.Lead.TheVariants as lead
 use Rattle.json_text.specs.Strings.{IsString}
-use Rattle.json_text.specs.Grammar.{IsWhite, Padded, Each, joined, Listed, IsArray, Member, IsMember, IsObject, last_values, null_text, true_text, false_text, IsScalar, IsValue}
-use Rattle.json_text.specs.Faults.{IsNumeral, IsQuoted, IsPair, Every, AreParts, IsPlainValue, IsSpelled, Begins, NumberHere, BracketHere, IsPlace, FaultAt}
-use Rattle.json_text.specs.Reading.{◌>>=◌, Read, unexpected, strip, byte_at, word_at, behind_white, repeated, text_at, number_at, lead_by, lead_of, scalar_at, separator_at, item_at, name_at, member_at, unless_closed, items_at, members_at, value_by, flat_by, value_at, at_end, text_read, placed}
-use Rattle.json_text.proofs.Fronts.{Whites, whites, byte_ok}
+use Rattle.json_text.specs.Grammar.{IsWhite, Padded, Each, joined, Listed, Member, IsMember, last_values, null_text, true_text, false_text, IsScalar}
+use Rattle.json_text.specs.Faults.{IsNumeral, IsQuoted, IsPair, Every, AreParts, IsPlainValue, IsSpelled, NumberHere, BracketHere, IsPlace, FaultAt}
+use Rattle.json_text.specs.Reading.{◌>>=◌, Read, unexpected, strip, byte_at, word_at, behind_white, repeated, text_at, number_at, lead_of, scalar_at, separator_at, item_at, name_at, member_at, unless_closed, items_at, members_at, value_by, flat_by, value_at, at_end, text_read, placed}
+use Rattle.json_text.proofs.Fronts.{whites, byte_ok}
 use Rattle.json_text.proofs.FoundStrings.{text_ok, string_ok}
-use Rattle.json_text.proofs.FoundValues.{Front, front_as, Part, Reads, IsItem, padded, item_ok, name_ok, member_ok, nested_ok, flat_ok, IsNested, by_first, quote_first, bracket_first, brace_first}
+use Rattle.json_text.proofs.FoundValues.{Front, front_as, Reads, padded, item_ok, name_ok, member_ok, nested_ok, flat_ok, IsNested, by_first, quote_first, bracket_first, brace_first}
 use Rattle.json_text.proofs.Cuts.{left_of, Cause, Cut, within, here, behind_here, cut_as, either_failed, ok_no_err, err_same, byte_err, word_err, FailedTurns, fails, spent, later, turns_err, number_err}
 use Rattle.json_text.proofs.CutStrings.{IsRest, text_err, rest_quoted}
 

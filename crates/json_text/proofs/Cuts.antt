@@ -1,16 +1,16 @@
 -- What a reading that failed says of the bytes before the fault and at it.
-use Rattle.std.proofs.Common.{◌≡◌, ℕ, zero, suc, ℤ, ◌+◌, ◌<◌, ◌≤◌, ◌==◌, ◌⊎◌, inl, inr, Bool, true, false, ◌&&◌, ◌||◌, not, cond, List, [], ◌∷◌, ◌++◌, length, take, drop, map, Option, Some, None, Result, Ok, Err, refl, sym, ap, subst, ◌∙◌, append_assoc, arith}
+use Rattle.std.proofs.Common.{◌≡◌, ℕ, zero, suc, ℤ, ◌==◌, ◌⊎◌, inl, inr, Bool, true, false, ◌&&◌, not, cond, List, [], ◌∷◌, ◌++◌, length, take, drop, Option, Some, None, Result, Ok, Err, refl, sym, ap, subst, ◌∙◌, append_assoc}
 use Rattle.std.proofs.lemmas.Bool.{eqb-true}
 use Rattle.std.proofs.lemmas.List.{append-nil}
 use Rattle.std.specs.Prelude.{IsTrue}
-use Rattle.std.specs.List.{prefix_len, list_all}
+use Rattle.std.specs.List.{prefix_len}
 use Rattle.std.specs.Str.Lossy.{utf8_valid_len}
 use Rattle.json_text.specs.declared.fault.Fault.{Fault}
 use Rattle.json_text.specs.declared.fault.Fault.TheVariants as fault
-use Rattle.json_text.specs.Numbers.{is_digit, is_int, is_exponent_letter, is_sign, is_minus, Literal, IsLiteral, literal_text, fraction_text, exponent_text, worth, IsNumber}
+use Rattle.json_text.specs.Numbers.{is_digit, is_exponent_letter, is_sign, Literal, IsLiteral, literal_text, fraction_text, exponent_text, worth, IsNumber}
 use Rattle.json_text.specs.Faults.{IsNumeral, NumberHere, BracketHere}
 use Rattle.json_text.specs.Reading.{◌>>=◌, Read, unexpected, or_fault, strip, byte_at, word_at, repeated, turn, with_front, digits_at, int_at, fraction_at, exponent_at, sign_of, minus_of, number_at}
-use Rattle.json_text.proofs.Fronts.{Bound, bound, byte_ok}
+use Rattle.json_text.proofs.Fronts.{byte_ok}
 use Rattle.json_text.proofs.FoundNumbers.{int_ok, fraction_ok, exponent_ok, sign_is, minus_is}
 
 -- how many bytes are left at a fault's place

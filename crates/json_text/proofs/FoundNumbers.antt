@@ -1,17 +1,16 @@
 -- A number that is read is a number of the grammar.
-use Rattle.std.proofs.Common.{◌≡◌, ℕ, zero, suc, ℤ, ◌+◌, ◌<◌, ◌==◌, Bool, true, false, ◌&&◌, ◌||◌, not, cond, List, [], ◌∷◌, ◌++◌, length, take, drop, Option, Some, None, Result, Ok, Err, refl, sym, ap, subst, ◌∙◌, append_assoc, arith}
+use Rattle.std.proofs.Common.{◌≡◌, ℕ, zero, suc, ℤ, ◌<◌, ◌==◌, Bool, true, false, ◌&&◌, ◌||◌, not, cond, List, [], ◌∷◌, ◌++◌, length, take, drop, Some, Ok, Err, refl, sym, ap, subst, ◌∙◌, append_assoc, arith}
 use Rattle.std.proofs.lemmas.Bool.{eqb-true, ne_eqb}
-use Rattle.std.proofs.lemmas.List.{take-append-drop, append-nil}
+use Rattle.std.proofs.lemmas.List.{take-append-drop}
 use Rattle.std.proofs.lemmas.Str.{IsUtf8-append, IsUtf8-nil}
 use Rattle.std.specs.Prelude.{IsTrue}
 use Rattle.std.specs.List.{prefix_len, list_all}
 use Rattle.std.specs.Str.{IsUtf8}
-use Rattle.json_text.specs.declared.fault.Fault.{Fault}
 use Rattle.json_text.specs.declared.fault.Fault.TheVariants as fault
 use Rattle.json_text.specs.Numbers.{is_digit, is_int, is_exponent_letter, is_sign, is_minus, Literal, IsLiteral, literal_text, fraction_text, exponent_text, worth, IsNumber}
 use Rattle.json_text.specs.Reading.{◌>>=◌, Read, unexpected, or_fault, digits_at, int_at, fraction_at, exponent_at, sign_of, minus_of, number_at}
 use Rattle.json_text.proofs.Prefix.{prefix_passes}
-use Rattle.json_text.proofs.Fronts.{Bound, bound, ok_same, ok_pair, or_fault_ok, cons_utf8, all_utf8}
+use Rattle.json_text.proofs.Fronts.{bound, ok_pair, or_fault_ok, cons_utf8, all_utf8}
 
 -- a digit, others, and what is behind them
 pub record Digits (bytes digits rest : List ℕ) : Type 0 where

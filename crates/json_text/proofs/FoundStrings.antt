@@ -1,5 +1,5 @@
 -- A string that is read is a string of the grammar.
-use Rattle.std.proofs.Common.{◌≡◌, ℕ, zero, suc, ◌+◌, ◌-◌, ◌*◌, ◌<◌, ◌==◌, Bool, true, false, ◌&&◌, ◌||◌, not, cond, List, [], ◌∷◌, ◌++◌, length, take, drop, map, Option, Some, None, Result, Ok, Err, refl, sym, ap, subst, ◌∙◌, append_assoc, arith}
+use Rattle.std.proofs.Common.{◌≡◌, ℕ, zero, suc, ◌+◌, ◌*◌, ◌<◌, ◌==◌, Bool, true, false, ◌&&◌, cond, List, [], ◌∷◌, ◌++◌, length, take, drop, map, Option, Some, None, Ok, Err, refl, sym, ap, subst, ◌∙◌, append_assoc, arith}
 use Rattle.std.proofs.lemmas.Bool.{eqb-true, and_from}
 use Rattle.std.proofs.lemmas.Bool.Decides.{nat_tests}
 use Rattle.std.proofs.lemmas.Grind.{flat_map-append}
@@ -13,10 +13,10 @@ use Rattle.std.specs.Str.{IsUtf8}
 use Rattle.std.specs.Str.Lossy.{utf8_valid_len}
 use Rattle.json_text.specs.declared.fault.Fault.{Fault}
 use Rattle.json_text.specs.declared.fault.Fault.TheVariants as fault
-use Rattle.json_text.specs.Strings.{is_plain, is_hex, hex_value, short_escape, Char, plain, short, unit, is_char, char_text, string_text, unit_value, is_high, is_low, pair_value, after, paired, text_of, IsString}
+use Rattle.json_text.specs.Strings.{is_plain, is_hex, hex_value, short_escape, Char, plain, short, unit, is_char, char_text, string_text, unit_value, is_high, is_low, pair_value, after, text_of, IsString}
 use Rattle.json_text.specs.Reading.{◌>>=◌, Read, unexpected, or_fault, with_front, turn, repeated, word_at, hex_of, hex_at, unit_at, escape_head, low_of, low_at, pair_with, char_at, escape_at, end_at, run_at, piece_at, text_at}
 use Rattle.json_text.proofs.Prefix.{prefix_passes}
-use Rattle.json_text.proofs.Fronts.{bound, ok_same, ok_pair, or_fault_ok, cons_utf8, word_ok, valid_utf8}
+use Rattle.json_text.proofs.Fronts.{bound, ok_pair, or_fault_ok, cons_utf8, word_ok, valid_utf8}
 
 -- ---- what a reading in turns reads
 
@@ -253,7 +253,7 @@ after_after : (front text : List ℕ) (o : Option (List ℕ)) → after front (a
 after_after front text None = refl
 after_after front text (Some x) = ap (λ (t : List ℕ). Some t) (sym (append_assoc front text x))
 
-run_means : (run : List ℕ) (others : List Char) → text_of (map plain run ++ others) ≡ after run (text_of others)
+pub run_means : (run : List ℕ) (others : List Char) → text_of (map plain run ++ others) ≡ after run (text_of others)
 run_means [] others = by (text_of others)
   where
     by : (o : Option (List ℕ)) → o ≡ after [] o

@@ -1,25 +1,20 @@
 -- A value that is read is a value of the grammar.
-use Rattle.std.proofs.Common.{◌≡◌, ℕ, zero, suc, ℤ, ◌+◌, ◌<◌, ◌==◌, ◌⊎◌, inl, inr, Bool, true, false, ◌&&◌, ◌||◌, not, cond, List, [], ◌∷◌, ◌++◌, length, take, drop, map, Option, Some, None, Result, Ok, Err, refl, sym, ap, subst, ◌∙◌, append_assoc, arith}
-use Rattle.std.proofs.lemmas.Bool.{eqb-true, and_from}
+use Rattle.std.proofs.Common.{◌≡◌, ℕ, zero, suc, ◌<◌, ◌==◌, ◌⊎◌, inl, inr, Bool, true, false, cond, List, [], ◌∷◌, ◌++◌, length, drop, Option, Some, None, Ok, Err, refl, sym, ap, subst, ◌∙◌, append_assoc, arith}
+use Rattle.std.proofs.lemmas.Bool.{eqb-true}
 use Rattle.std.proofs.lemmas.Bool.Decides.{nat_tests}
 use Rattle.std.proofs.lemmas.List.{append-nil}
 use Rattle.std.proofs.lemmas.Str.{IsUtf8-append, IsUtf8-nil}
-use Rattle.std.specs.Prelude.{IsTrue}
-use Rattle.std.specs.List.{list_all}
 use Rattle.std.specs.Str.{IsUtf8}
 use Rattle.doc_model.specs.declared.node.Node.{Node}
 use Rattle.doc_model.specs.declared.node.Node.TheVariants as node
-use Rattle.json_text.specs.declared.fault.Fault.{Fault}
-use Rattle.json_text.specs.declared.fault.Fault.TheVariants as fault
 use Rattle.json_text.specs.declared.lead.Lead.{Lead}
 use Rattle.json_text.specs.declared.lead.Lead.TheVariants as lead
-use Rattle.json_text.specs.Numbers.{is_digit, IsNumber}
 use Rattle.json_text.specs.Strings.{IsString}
-use Rattle.json_text.specs.Grammar.{is_white, IsWhite, Padded, Each, joined, Listed, IsArray, Member, IsMember, IsObject, last_values, null_text, true_text, false_text, IsScalar, IsValue, IsJson}
+use Rattle.json_text.specs.Grammar.{Padded, Each, joined, Listed, IsArray, Member, IsMember, IsObject, last_values, null_text, true_text, false_text, IsScalar, IsValue, IsJson}
 use Rattle.json_text.specs.Reading.{◌>>=◌, Read, unexpected, strip, byte_at, word_at, behind_white, repeated, text_at, number_at, lead_by, lead_of, scalar_at, separator_at, item_at, name_at, member_at, unless_closed, items_at, members_at, value_by, flat_by, value_at, at_end, text_read}
-use Rattle.json_text.proofs.Fronts.{bound, ok_same, ok_pair, stripped, byte_ok, word_ok, Whites, whites, cons_utf8, all_utf8, white_utf8, word_utf8}
-use Rattle.json_text.proofs.FoundNumbers.{Number, number_ok}
-use Rattle.json_text.proofs.FoundStrings.{Turns, last, more, turns_ok, Text, text_ok, string_ok}
+use Rattle.json_text.proofs.Fronts.{bound, ok_same, ok_pair, stripped, byte_ok, word_ok, whites, cons_utf8, white_utf8, word_utf8}
+use Rattle.json_text.proofs.FoundNumbers.{number_ok}
+use Rattle.json_text.proofs.FoundStrings.{Turns, last, more, turns_ok, text_ok, string_ok}
 
 -- a text at the front, and what is behind it
 pub record Front (IsText : List ℕ → Type 0) (bytes rest : List ℕ) : Type 0 where

@@ -16,3 +16,6 @@ pub mod Cuts
 pub mod CutStrings
 pub mod CutValues
 pub mod Written
+pub mod CanonicalNumbers
+pub mod CanonicalTexts
+pub mod CanonicalTrees

@@ -1,13 +1,11 @@
 -- A number of the grammar is read as what it is worth.
-use Rattle.std.proofs.Common.{◌≡◌, ℕ, zero, suc, ℤ, ◌+◌, ◌<◌, ◌==◌, Bool, true, false, ◌&&◌, ◌||◌, not, cond, List, [], ◌∷◌, ◌++◌, length, take, drop, Option, Some, None, Result, Ok, Err, refl, sym, ap, subst, ◌∙◌, append_assoc, arith}
-use Rattle.std.proofs.lemmas.Bool.{eqb-true, eq-eqb, ne_eqb, not-true}
+use Rattle.std.proofs.Common.{◌≡◌, ℕ, suc, ℤ, ◌==◌, Bool, true, false, ◌&&◌, ◌||◌, not, cond, List, [], ◌∷◌, ◌++◌, length, take, drop, Some, Ok, Err, refl, sym, ap, ◌∙◌, append_assoc, arith}
+use Rattle.std.proofs.lemmas.Bool.{ne_eqb, not-true}
 use Rattle.std.proofs.lemmas.List.{take_at, drop_at}
-use Rattle.std.specs.Prelude.{IsTrue}
 use Rattle.std.specs.List.{prefix_len, list_all}
 use Rattle.json_text.specs.declared.fault.Fault.{Fault}
-use Rattle.json_text.specs.declared.fault.Fault.TheVariants as fault
-use Rattle.json_text.specs.Numbers.{is_digit, is_int, is_exponent_letter, is_sign, is_minus, Literal, IsLiteral, literal_text, fraction_text, exponent_text, worth, IsNumber}
-use Rattle.json_text.specs.Reading.{◌>>=◌, Read, unexpected, or_fault, digits_at, int_at, fraction_at, exponent_at, sign_of, minus_of, number_at}
+use Rattle.json_text.specs.Numbers.{is_digit, is_int, is_exponent_letter, is_sign, is_minus, fraction_text, exponent_text, worth, IsNumber}
+use Rattle.json_text.specs.Reading.{Read, unexpected, digits_at, int_at, fraction_at, exponent_at, sign_of, minus_of, number_at}
 use Rattle.json_text.proofs.Spelled.{stops, front_len, ends_value, no_digit, no_point, no_letter}
 
 digits_by : (bytes : List ℕ) (f : Fault) (n m : ℕ) → n ≡ suc m → ◌≡◌ {A = Read (List ℕ)} (cond (n == 0) (Err f) (Ok (take n bytes, drop n bytes))) (Ok (take (suc m) bytes, drop (suc m) bytes))

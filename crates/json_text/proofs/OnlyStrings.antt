@@ -1,21 +1,19 @@
 -- A string of the grammar is read as the text that it is.
-use Rattle.std.proofs.Common.{◌≡◌, ℕ, zero, suc, ◌+◌, ◌<◌, ◌==◌, Bool, true, false, ◌&&◌, ◌||◌, not, cond, List, [], ◌∷◌, ◌++◌, length, take, drop, Option, Some, None, Result, Ok, Err, refl, sym, ap, subst, ◌∙◌, append_assoc, arith}
-use Rattle.std.proofs.lemmas.Bool.{eqb-true, eq-eqb, ne_eqb, not-true, and_from}
-use Rattle.std.proofs.lemmas.List.{append-nil, length-append}
+use Rattle.std.proofs.Common.{◌≡◌, ℕ, suc, ◌<◌, ◌==◌, Bool, true, false, ◌&&◌, List, [], ◌∷◌, ◌++◌, length, drop, Option, Some, None, Result, Ok, refl, sym, ap, subst, ◌∙◌, append_assoc, arith}
+use Rattle.std.proofs.lemmas.Bool.{ne_eqb, and_from}
+use Rattle.std.proofs.lemmas.List.{length-append}
 use Rattle.std.proofs.lemmas.List.Folds.{list_all-append}
 use Rattle.std.proofs.lemmas.Str.{IsUtf8-append, IsUtf8-nil, encode_ascii}
-use Rattle.std.specs.Prelude.{IsTrue}
 use Rattle.std.specs.List.{prefix_len, list_all, flat_map}
 use Rattle.std.specs.Char.{encode_utf8}
 use Rattle.std.specs.Str.{IsUtf8}
 use Rattle.json_text.specs.declared.fault.Fault.{Fault}
-use Rattle.json_text.specs.declared.fault.Fault.TheVariants as fault
-use Rattle.json_text.specs.Strings.{is_plain, is_hex, hex_value, short_escape, is_some_escape, or_else, Char, plain, short, unit, is_char, char_text, string_text, unit_value, is_high, is_low, pair_value, after, paired, text_of, IsString}
-use Rattle.json_text.specs.Reading.{◌>>=◌, Read, unexpected, or_fault, repeated, word_at, hex_of, hex_at, unit_at, escape_head, low_of, low_at, pair_with, char_at, escape_at, end_at, run_at, piece_at, text_at}
+use Rattle.json_text.specs.Strings.{is_plain, is_hex, hex_value, short_escape, is_some_escape, or_else, Char, plain, short, unit, is_char, char_text, unit_value, is_high, is_low, pair_value, after, text_of, IsString}
+use Rattle.json_text.specs.Reading.{◌>>=◌, Read, repeated, hex_at, unit_at, escape_head, low_of, low_at, char_at, escape_at, end_at, run_at, piece_at, text_at}
 use Rattle.json_text.proofs.Words.{run_ok}
 use Rattle.json_text.proofs.Fronts.{cons_utf8}
 use Rattle.json_text.proofs.FoundStrings.{all_hex, unit_means, pair_means, unit_utf8, short_small}
-use Rattle.json_text.proofs.Spelled.{stops, front_len, front_taken, front_dropped, word_here, cut_front, cut_behind, Taken, last, more, taken_ok}
+use Rattle.json_text.proofs.Spelled.{stops, front_taken, front_dropped, word_here, cut_front, cut_behind, Taken, last, more, taken_ok}
 
 -- ---- escapes
 

@@ -1,24 +1,21 @@
 -- A text of the grammar is read as the value that it is.
-use Rattle.std.proofs.Common.{◌≡◌, ℕ, zero, suc, ℤ, ◌+◌, ◌<◌, ◌==◌, ◌⊎◌, inl, inr, Bool, true, false, ◌&&◌, ◌||◌, not, cond, List, [], ◌∷◌, ◌++◌, length, take, drop, Option, Some, None, Result, Ok, Err, refl, sym, ap, subst, ◌∙◌, append_assoc, arith}
+use Rattle.std.proofs.Common.{◌≡◌, ℕ, zero, suc, ℤ, ◌<◌, ◌==◌, inl, inr, Bool, true, false, ◌&&◌, not, cond, List, [], ◌∷◌, ◌++◌, length, drop, Option, Some, None, Ok, refl, sym, ap, subst, ◌∙◌, append_assoc, arith}
 use Rattle.std.proofs.lemmas.Bool.{eqb-true, eq-eqb, false_from_ne_true, not_from_false}
 use Rattle.std.proofs.lemmas.Bool.Decides.{nat_tests}
 use Rattle.std.proofs.lemmas.List.{append-nil, length-append}
-use Rattle.std.proofs.lemmas.Str.{IsUtf8-append, IsUtf8-nil}
-use Rattle.std.specs.Prelude.{IsTrue}
 use Rattle.std.specs.List.{list_all}
 use Rattle.std.specs.Str.{IsUtf8}
 use Rattle.doc_model.specs.declared.node.Node.{Node}
 use Rattle.doc_model.specs.declared.node.Node.TheVariants as node
-use Rattle.json_text.specs.declared.fault.Fault.{Fault}
 use Rattle.json_text.specs.declared.lead.Lead.{Lead}
 use Rattle.json_text.specs.declared.lead.Lead.TheVariants as lead
-use Rattle.json_text.specs.Numbers.{is_digit, is_int, Literal, IsLiteral, literal_text, fraction_text, exponent_text, IsNumber}
+use Rattle.json_text.specs.Numbers.{is_digit, is_int, fraction_text, exponent_text, IsNumber}
 use Rattle.json_text.specs.Strings.{IsString}
-use Rattle.json_text.specs.Grammar.{is_white, IsWhite, Padded, Each, joined, Listed, IsArray, Member, IsMember, IsObject, last_values, null_text, true_text, false_text, IsScalar, IsValue, IsJson}
-use Rattle.json_text.specs.Reading.{◌>>=◌, Read, unexpected, strip, byte_at, word_at, behind_white, repeated, text_at, number_at, lead_by, lead_of, scalar_at, separator_at, item_at, name_at, member_at, unless_closed, items_at, members_at, value_by, flat_by, value_at, at_end, text_read}
-use Rattle.json_text.proofs.Fronts.{cons_utf8, white_utf8}
+use Rattle.json_text.specs.Grammar.{is_white, IsWhite, Padded, Each, joined, Listed, Member, IsMember, last_values, null_text, true_text, false_text, IsScalar, IsValue, IsJson}
+use Rattle.json_text.specs.Reading.{◌>>=◌, Read, strip, byte_at, behind_white, repeated, text_at, lead_by, lead_of, scalar_at, separator_at, item_at, name_at, member_at, unless_closed, items_at, members_at, value_by, flat_by, value_at, at_end, text_read}
+use Rattle.json_text.proofs.Fronts.{white_utf8}
 use Rattle.json_text.proofs.FoundValues.{IsNested}
-use Rattle.json_text.proofs.Spelled.{stops, white_skipped, strip_here, byte_here, word_here, cut_front, cut_behind, cut_after, Taken, last, more, taken_ok, ends_value}
+use Rattle.json_text.proofs.Spelled.{stops, white_skipped, strip_here, byte_here, word_here, cut_behind, cut_after, Taken, last, more, taken_ok, ends_value}
 use Rattle.json_text.proofs.OnlyNumbers.{number_here}
 use Rattle.json_text.proofs.OnlyStrings.{string_here}
 

@@ -1,15 +1,14 @@
 -- What bytes that are spelled so are read as.
-use Rattle.std.proofs.Common.{◌≡◌, ℕ, zero, suc, ◌+◌, ◌<◌, ◌≤◌, ◌==◌, Bool, true, false, ◌&&◌, ◌||◌, not, cond, List, [], ◌∷◌, ◌++◌, length, get_or, take, drop, Option, Some, None, Result, Ok, Err, refl, sym, ap, subst, ◌∙◌, append_assoc, arith}
+use Rattle.std.proofs.Common.{◌≡◌, ℕ, zero, suc, ◌+◌, ◌<◌, ◌≤◌, ◌==◌, Bool, true, false, ◌&&◌, ◌||◌, not, cond, List, [], ◌∷◌, ◌++◌, length, take, drop, Some, Result, Ok, refl, sym, ap, subst, ◌∙◌, append_assoc, arith}
 use Rattle.std.proofs.lemmas.Bool.{eq-eqb, not-true}
-use Rattle.std.proofs.lemmas.List.{take_at, drop_at, get_or_at, length-append, drop-drop}
-use Rattle.std.proofs.lemmas.Str.{IsUtf8-append, IsUtf8-take, IsUtf8-drop, IsUtf8-nil, IsCharBoundary-before_ascii, IsCharBoundary-after_ascii, IsCharBoundary-from_take}
-use Rattle.std.specs.Prelude.{IsTrue}
+use Rattle.std.proofs.lemmas.List.{take_at, drop_at, get_or_at, length-append}
+use Rattle.std.proofs.lemmas.Str.{IsUtf8-append, IsUtf8-take, IsUtf8-drop, IsUtf8-nil, IsCharBoundary-before_ascii, IsCharBoundary-from_take}
 use Rattle.std.specs.List.{prefix_len, list_all}
 use Rattle.std.specs.Str.{IsUtf8}
 use Rattle.json_text.specs.declared.fault.Fault.{Fault}
 use Rattle.json_text.specs.Grammar.{is_white, IsWhite}
 use Rattle.json_text.specs.Numbers.{is_digit, is_exponent_letter}
-use Rattle.json_text.specs.Reading.{◌>>=◌, Read, unexpected, strip, byte_at, word_at, behind_white, turn, with_front, repeated}
+use Rattle.json_text.specs.Reading.{◌>>=◌, Read, strip, byte_at, word_at, behind_white, turn, with_front, repeated}
 use Rattle.json_text.proofs.Fronts.{cons_utf8}
 
 -- the first byte, if there is one, fails the test

@@ -57,7 +57,7 @@ places_stay [] member i q e = absurd cc
 places_stay (first ∷ others) member i q e =
     same_step first (first.0, member.1) others (put others member) q (place_of others member.0) i (bytes_eq first.0 member.0) refl e (λ j f. places_stay others member j q f)
 
-abbrev or_at : Option ℕ → Option ℕ → Option ℕ
+abbrev pub or_at : Option ℕ → Option ℕ → Option ℕ
 or_at None o = o
 or_at (Some i) o = Some i
 
@@ -67,7 +67,7 @@ behind_step false true None len = refl
 behind_step false false None len = refl
 behind_step false t (Some i) len = refl
 
-place_behind : (members : List Member) (member : Member) (q : List ℕ) → place_of (members ++ member ∷ []) q ≡ or_at (place_of members q) (cond (bytes_eq member.0 q) (Some (length members)) None)
+pub place_behind : (members : List Member) (member : Member) (q : List ℕ) → place_of (members ++ member ∷ []) q ≡ or_at (place_of members q) (cond (bytes_eq member.0 q) (Some (length members)) None)
 place_behind [] member q = refl
 place_behind (first ∷ others) member q =
     ap (λ (p : Option ℕ). cond (bytes_eq first.0 q) (Some 0) (option_map suc p)) (place_behind others member q)

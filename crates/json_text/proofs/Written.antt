@@ -1,10 +1,11 @@
 -- What is written, from its parts.
-use Rattle.std.proofs.Common.{◌≡◌, ◌≢◌, ℕ, zero, suc, ◌+◌, ◌-◌, ◌*◌, ◌/◌, ◌%◌, ◌^◌, ◌<◌, ◌≤◌, ◌==◌, Bool, true, false, not, cond, List, [], ◌∷◌, ◌++◌, length, get_or, take, map, refl, sym, ap, subst, ◌∙◌, append_assoc, arith}
-use Rattle.std.proofs.lemmas.List.{append-nil, map_more, length-map, length-take-le}
-use Rattle.std.proofs.lemmas.Bool.{ne_eqb}
+use Rattle.std.proofs.Common.{◌≡◌, ◌≢◌, ℕ, zero, suc, ◌+◌, ◌-◌, ◌*◌, ◌/◌, ◌%◌, ◌^◌, ◌<◌, ◌==◌, Bool, true, not, List, [], ◌∷◌, ◌++◌, length, get_or, take, map, refl, sym, ap, subst, ◌∙◌, append_assoc, arith}
+use Rattle.std.proofs.lemmas.List.{map_more, length-map, length-take-le}
+use Rattle.std.proofs.lemmas.Bool.{ne_eqb, and_from}
 use Rattle.std.proofs.lemmas.Nat.{pow-add}
-use Rattle.std.specs.List.{flat_map}
-use Rattle.doc_model.specs.declared.node.Node.{Node, map-Node}
+use Rattle.std.proofs.lemmas.List.Folds.{list_all_more}
+use Rattle.std.specs.Prelude.{OnOk, Result, Ok, Err}
+use Rattle.std.specs.List.{flat_map, list_all}
 use Rattle.doc_model.specs.declared.node.Node.TheVariants as node
 use Rattle.doc_model.specs.declared.node.Node.TheOpen.{Node-F}
 use Rattle.doc_model.specs.declared.node.Node.TheFolds.{fold-roll-Node}
@@ -48,6 +49,17 @@ joined_more {X = X} f xs ys i x some start all commaed now same lt is more a b c
     let whole : joined (map f (take (i + 1) xs)) ≡ joined front ++ comma some ++ f x =
     ap (λ (ps : List (List ℕ)). joined ps) (map_more f xs i x le ∙ ap (λ (z : X). front ++ f z ∷ []) (sym at)) ∙ joined_push front (f x) some (some_by (length front) i some len more) in
     rw (whole, c, b, a) (simp append_assoc)
+
+pub all_more : {X : Type 0} (p : X → Bool) (xs ys : List X) (i : ℕ) (x : X) → ys ≡ xs → i < length ys → x ≡ get_or ys i x → list_all p (take i xs) ≡ true → p x ≡ true → list_all p (take (i + 1) xs) ≡ true
+all_more {X = X} p xs ys i x same lt is all one =
+    let le : i < length xs = subst (λ (zs : List X). i < length zs) same lt in
+    let at : x ≡ get_or xs i x = subst (λ (zs : List X). x ≡ get_or zs i x) same is in
+    list_all_more p xs i x le ∙ and_from (list_all p (take i xs)) (p (get_or xs i x)) all (ap p (sym at) ∙ one)
+
+-- what holds anyway
+pub on_ok : {A E : Type 0} (r : Result A E) (P : Type 0) → P → OnOk r P
+on_ok {A = A} {E = E} (Ok x) P p = p
+on_ok {A = A} {E = E} (Err e) P p = tt
 
 -- between brackets
 pub bracketed : (all opened before inner : List ℕ) (first last : ℕ) → all ≡ opened ++ inner → opened ≡ before ++ first ∷ [] → before ++ first ∷ (inner ++ last ∷ []) ≡ all ++ last ∷ []

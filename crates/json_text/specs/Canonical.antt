@@ -1,9 +1,9 @@
 -- The canonical text of a tree: what is written.
-use Rattle.std.specs.Prelude.{ℕ, ℤ, pos, int_lt, unsigned_abs, zero, suc, ◌+◌, ◌/◌, ◌%◌, ◌^◌, ◌==◌, Bool, true, false, ◌||◌, nat_lt, List, [], ◌∷◌, ◌++◌, map, if◌then◌else◌}
+use Rattle.std.specs.Prelude.{ℕ, ℤ, pos, negsuc, int_lt, unsigned_abs, ◌-◌, ◌&&◌, zero, suc, ◌+◌, ◌/◌, ◌%◌, ◌^◌, ◌==◌, Bool, true, nat_lt, List, [], ◌∷◌, ◌++◌, map, if◌then◌else◌}
 use Rattle.std.specs.Char.{encode_utf8}
 use Rattle.std.specs.Fmt.{decimal}
-use Rattle.std.specs.List.{flat_map}
-use Rattle.std.specs.Str.{chars}
+use Rattle.std.specs.List.{flat_map, list_all}
+use Rattle.std.specs.Str.{chars, is_utf8}
 use Rattle.doc_model.specs.declared.node.Node.{Node}
 use Rattle.doc_model.specs.declared.node.Node.TheOpen.{Node-F}
 use Rattle.doc_model.specs.declared.node.Node.TheFolds.{fold-Node}
@@ -67,3 +67,18 @@ member_text m = quoted m.0 ++ 0x3A ∷ node_text m.1
 -- a comma, but before the first
 abbrev pub comma : Bool → List ℕ
 comma needed = if needed then 0x2C ∷ [] else []
+
+-- the magnitude is below 10^38
+abbrev pub is_decimal : ℤ → Bool
+is_decimal units = int_lt (negsuc (10 ^ 38 - 1)) units && int_lt units (pos (10 ^ 38))
+
+-- the texts and names of a tree are UTF-8, and its numbers decimals
+abbrev pub values_step : Node-F Bool → Bool
+values_step (Node-F.Num units) = is_decimal units
+values_step (Node-F.Text text) = is_utf8 text
+values_step (Node-F.Items items) = list_all (λ item. item) items
+values_step (Node-F.Members members) = list_all (λ member. is_utf8 member.0 && member.1) members
+values_step _ = true
+
+abbrev pub has_values : Node → Bool
+has_values = fold-Node Bool values_step

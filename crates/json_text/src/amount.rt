@@ -1,5 +1,5 @@
-ghost use Rattle.std.specs.Prelude.{◌≡◌, ◌<◌, ◌≤◌, ◌^◌, ◌++◌, OnOk, string_bytes};
-ghost use Rattle.json_text.specs.Canonical.{places_text, point_text, magnitude_text, units_text};
+ghost use Rattle.std.specs.Prelude.{◌≡◌, ◌<◌, ◌≤◌, ◌^◌, ◌++◌, OnOk, IsTrue, string_bytes};
+ghost use Rattle.json_text.specs.Canonical.{places_text, point_text, magnitude_text, units_text, is_decimal};
 
 use crate::quoting::put_ascii;
 use doc_model::Dec;
@@ -44,7 +44,8 @@ fn put_magnitude(out: &mut String, units: u128) -> Result<(), AllocError>
 
 /// Appends a number.
 pub(crate) fn put_number(out: &mut String, number: &Dec) -> Result<(), AllocError>
-    ensures { OnOk result (string_bytes out.new ≡ string_bytes out.old ++ units_text number.now) }
+    ensures written { OnOk result (string_bytes out.new ≡ string_bytes out.old ++ units_text number.now) }
+    ensures decimal { IsTrue (is_decimal number.now) }
 {
     let units = number.units();
     if units < 0 {

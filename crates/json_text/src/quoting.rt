@@ -1,6 +1,8 @@
-ghost use Rattle.std.specs.Prelude.{◌≡◌, ◌<◌, ◌++◌, ◌∷◌, [], OnOk, string_bytes};
+ghost use Rattle.std.specs.Prelude.{◌≡◌, ◌<◌, ◌++◌, ◌∷◌, [], OnOk, IsTrue, string_bytes};
+ghost use Rattle.std.specs.Str.{is_utf8};
 ghost use Rattle.json_text.specs.Canonical.{low_hex, coded, escaped, quoted};
 
+use doc_model::Text;
 use std::alloc::AllocError;
 
 /// Appends an ASCII character.
@@ -59,13 +61,22 @@ fn put_char(out: &mut String, c: char) -> Result<(), AllocError>
     }
 }
 
-/// Appends a text as a string.
-pub(crate) fn put_quoted(out: &mut String, text: &str) -> Result<(), AllocError>
-    ensures { OnOk result (string_bytes out.new ≡ string_bytes out.old ++ quoted text.now) }
+/// Appends the characters of a text, as a string.
+fn put_quoted(out: &mut String, text: &str) -> Result<(), AllocError>
+    ensures written { OnOk result (string_bytes out.new ≡ string_bytes out.old ++ quoted text.now) }
+    ensures utf8 { IsTrue (is_utf8 text.now) }
 {
     put_ascii(out, b'"')?;
     for c in text.chars() {
         put_char(out, c)?;
     }
     put_ascii(out, b'"')
+}
+
+/// Appends a text, as a string.
+pub(crate) fn put_text(out: &mut String, text: &Text) -> Result<(), AllocError>
+    ensures written { OnOk result (string_bytes out.new ≡ string_bytes out.old ++ quoted text.now) }
+    ensures utf8 { IsTrue (is_utf8 text.now) }
+{
+    put_quoted(out, text.as_str())
 }

@@ -1,7 +1,6 @@
-use Rattle.std.proofs.Common.{arith, append_assoc, sym, ap, ◌∙◌, ◌<◌, ◌≡◌, ◌/◌, ◌^◌, ◌-◌, ℕ, subst, ◌≢◌}
+use Rattle.std.proofs.Common.{arith, append_assoc, sym, ◌<◌, ◌≡◌, ◌/◌, ◌^◌, ◌-◌, ℕ, subst, ◌≢◌}
 use Rattle.std.specs.Prelude.{string_bytes}
 use Rattle.std.proofs.lemmas.List.{append-nil}
-use Rattle.json_text.specs.Canonical.{places_text}
 use Rattle.json_text.proofs.Written.{no_places, some_places, tenth, ten_positive, next_place}
 use Rattle.json_text.proofs.amount.+put_places.Goals as goal
 

@@ -1,4 +1,4 @@
-use Rattle.std.proofs.Common.{refl, ◌≡◌, sym, ◌∙◌, Ok}
+use Rattle.std.proofs.Common.{sym, ◌∙◌}
 use Rattle.json_text.proofs.Fronts.{ok_same}
 use Rattle.json_text.proofs.CutValues.{fault_told}
 use Rattle.json_text.proofs.FoundValues.{found}
