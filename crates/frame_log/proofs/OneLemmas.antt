@@ -22,8 +22,7 @@ peel c d x y short low is =
     sym (take_at (to_be_bytes w64 (length c)) (c ++ x) 8 refl) ∙ ap (λ (l : List ℕ). take 8 l) both ∙ take_at (to_be_bytes w64 (length d)) (d ++ y) 8 refl in
     let same : length c ≡ length d = sym (from_be_bytes-to_be_bytes_8 (length c) short) ∙ ap (from_be_bytes w64) size ∙ from_be_bytes-to_be_bytes_8 (length d) low in
     let rest : c ++ x ≡ d ++ y =
-    sym (drop_at (to_be_bytes w64 (length c)) (c ++ x) 8 refl) ∙ ap (λ (l : List ℕ). drop 8 l) both ∙ drop_at (to_be_bytes w64 (length d)) (d ++ y) 8 refl in
-    (
+    sym (drop_at (to_be_bytes w64 (length c)) (c ++ x) 8 refl) ∙ ap (λ (l : List ℕ). drop 8 l) both ∙ drop_at (to_be_bytes w64 (length d)) (d ++ y) 8 refl in (
       sym (take_at c x (length d) same) ∙ ap (λ (l : List ℕ). take (length d) l) rest ∙ take_at d y (length d) refl,
       sym (drop_at c x (length d) same) ∙ ap (λ (l : List ℕ). drop (length d) l) rest ∙ drop_at d y (length d) refl,
     )
