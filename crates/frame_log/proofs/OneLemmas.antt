@@ -1,9 +1,9 @@
 -- Bytes say one list of frames.
-use Rattle.std.proofs.Common.{◌≡◌, ◌≢◌, ◌≤◌, ◌<◌, ◌^◌, ◌+◌, ◌∙◌, inl, inr, refl, sym, ap, ℕ, List, [], ◌∷◌, ◌++◌, length, take, drop, append_assoc, length-append, arith}
+use Rattle.std.proofs.Common.{◌≡◌, ◌≢◌, ◌≤◌, ◌<◌, ◌^◌, ◌∙◌, inl, inr, refl, sym, ap, ℕ, List, [], ◌∷◌, ◌++◌, length, take, drop, append_assoc, length-append, arith}
 use Rattle.std.specs.Int.{w64, to_be_bytes, from_be_bytes}
 use Rattle.std.proofs.lemmas.List.{take_at, drop_at}
 use Rattle.std.proofs.lemmas.Nat.{from_be_bytes-to_be_bytes_8}
-use Rattle.frame_log.specs.Frames.{sized, open_frame, framed, HasFrames, BeginsWhole, IsDamaged, IsBroken}
+use Rattle.frame_log.specs.Frames.{sized, open_frame, framed, HasFrames, BeginsWhole, IsDamaged}
 use Rattle.frame_log.specs.declared.frame.TheConstants.{OPEN}
 
 head_same : (a b : ℕ) (x y : List ℕ) → a ∷ x ≡ b ∷ y → a ≡ b
