@@ -1,9 +1,9 @@
 -- Bytes say one list of frames.
-use Rattle.std.proofs.Common.{◌≡◌, ◌≢◌, ◌≤◌, ◌<◌, ◌^◌, ◌+◌, ◌∙◌, inl, inr, refl, sym, ap, ℕ, List, [], ◌∷◌, ◌++◌, length, take, drop, append_assoc, length-append, arith}
+use Rattle.std.proofs.Common.{◌≡◌, ◌≢◌, ◌≤◌, ◌<◌, ◌^◌, ◌∙◌, inl, inr, refl, sym, ap, ℕ, List, [], ◌∷◌, ◌++◌, length, take, drop, append_assoc, length-append, arith}
 use Rattle.std.specs.Int.{w64, to_be_bytes, from_be_bytes}
 use Rattle.std.proofs.lemmas.List.{take_at, drop_at}
 use Rattle.std.proofs.lemmas.Nat.{from_be_bytes-to_be_bytes_8}
-use Rattle.frame_log.specs.Frames.{sized, open_frame, framed, HasFrames, BeginsWhole, IsDamaged, IsBroken}
+use Rattle.frame_log.specs.Frames.{sized, open_frame, framed, HasFrames, BeginsWhole, IsDamaged}
 use Rattle.frame_log.specs.declared.frame.TheConstants.{OPEN}
 
 head_same : (a b : ℕ) (x y : List ℕ) → a ∷ x ≡ b ∷ y → a ≡ b
@@ -22,8 +22,7 @@ peel c d x y short low is =
     sym (take_at (to_be_bytes w64 (length c)) (c ++ x) 8 refl) ∙ ap (λ (l : List ℕ). take 8 l) both ∙ take_at (to_be_bytes w64 (length d)) (d ++ y) 8 refl in
     let same : length c ≡ length d = sym (from_be_bytes-to_be_bytes_8 (length c) short) ∙ ap (from_be_bytes w64) size ∙ from_be_bytes-to_be_bytes_8 (length d) low in
     let rest : c ++ x ≡ d ++ y =
-    sym (drop_at (to_be_bytes w64 (length c)) (c ++ x) 8 refl) ∙ ap (λ (l : List ℕ). drop 8 l) both ∙ drop_at (to_be_bytes w64 (length d)) (d ++ y) 8 refl in
-    (
+    sym (drop_at (to_be_bytes w64 (length c)) (c ++ x) 8 refl) ∙ ap (λ (l : List ℕ). drop 8 l) both ∙ drop_at (to_be_bytes w64 (length d)) (d ++ y) 8 refl in (
       sym (take_at c x (length d) same) ∙ ap (λ (l : List ℕ). take (length d) l) rest ∙ take_at d y (length d) refl,
       sym (drop_at c x (length d) same) ∙ ap (λ (l : List ℕ). drop (length d) l) rest ∙ drop_at d y (length d) refl,
     )

@@ -65,6 +65,7 @@ pub record SparesOthers {D : Type 0} (seen : D → Option Image) (may_leave : D 
   pub reads : Becomes (OnlyAt file Any) (seen old) (seen new)
   pub images : Throughout (moment old) (moment new) (left_since old) (left_since new) (λ c. (d : Image) × may_leave old d × OnlyAt file Any d c)
 
+-- which of the disk's logs it is
 abbrev pub file_of : Log → ℕ
 file_of log = log.file
 

@@ -1,4 +1,6 @@
 // Crashes and faults at each device call, and the bytes of a log.
+ghost use Rattle.std.specs.Prelude.{◌<◌, length};
+
 use crate::{Frame, LogRefusal, ScanRefusal, scan};
 use disk_memory::{MemoryDisk, Meter, Plan, blank_logs};
 use disk_model::{Disk, Failed};
@@ -109,8 +111,7 @@ fn each_fault_is_revived(rt: HostRuntime) -> Result<(), Fail> {
         assert_eq!(rt; log.append(&mut disk, &frame), Err(LogRefusal::Down));
         assert_eq!(rt; log.reset(&mut disk), Err(LogRefusal::Down));
         log.revive(&mut disk)?;
-        assert_eq!(rt; (disk.len(0)?, disk.unsure(0)), (1, 0));
-        assert_eq!(rt; left(alloc, &disk, 14)?, 0);
+        assert_eq!(rt; (left(alloc, &disk, 14)?, disk.unsure(0)), (0, 0));
         log.append(&mut disk, &frame)?;
         assert_eq!(rt; left(alloc, &disk, 14)?, 1);
     }
@@ -128,7 +129,6 @@ fn a_broken_reset_is_done_to_its_end(rt: HostRuntime) -> Result<(), Fail> {
         assert_eq!(rt; log.reset(&mut disk), Err(LogRefusal::Fault));
         log.revive(&mut disk)?;
         assert_eq!(rt; (disk.len(0)?, disk.unsure(0)), (1, 0));
-        log.reset(&mut disk)?;
     }
     Ok(())
 }
@@ -153,7 +153,9 @@ fn the_bytes_of_a_log(rt: HostRuntime) -> Result<(), Fail> {
 }
 
 // What a scan of these bytes answers: how many frames, or the place of the damage.
-fn found(alloc: Global, bytes: &[u8]) -> Result<Result<usize, u64>, Fail> {
+fn found(alloc: Global, bytes: &[u8]) -> Result<Result<usize, u64>, Fail>
+    requires { length bytes.now < 100 }
+{
     let mut disk = blank(alloc, &[], None)?;
     disk.cut(0, 0)?;
     disk.write_at(0, 0, bytes)?;
