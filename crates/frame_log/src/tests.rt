@@ -53,12 +53,10 @@ fn blank(alloc: Global, failing: &[u64], stop: Option<u64>) -> Result<MemoryDisk
     MemoryDisk::new(alloc, blank_logs(alloc)?, meter(alloc, failing, stop)?)
 }
 
-// How many frames a crash leaves where so many bytes of the last change have landed.
-fn left(alloc: Global, disk: &MemoryDisk, count: u64) -> Result<usize, Fail> {
-    let mut counts = Vec::new(alloc);
-    counts.push(count)?;
+// How many frames a crash leaves where so many bytes of each change since the last sync have landed.
+fn left(alloc: Global, disk: &MemoryDisk, counts: &[u64]) -> Result<usize, Fail> {
     let mut landed = Vec::new(alloc);
-    landed.push(counts)?;
+    landed.push(counts.to_vec(alloc)?)?;
     let mut crashed = disk.after_crash(alloc, &landed, meter(alloc, &[], None)?)?;
     let (_, bodies) = scan(alloc, &mut crashed, 0)?;
     Ok(bodies.len())
@@ -76,7 +74,7 @@ fn a_crash_in_an_append_leaves_the_old_frames_or_the_new(rt: HostRuntime) -> Res
         assert_eq!(rt; log.append(&mut disk, &frame).is_ok(), stop == 4);
         for count in 0..14u64 {
             let added = stop == 4 || (stop == 3 && count > 0);
-            assert_eq!(rt; left(alloc, &disk, count)? == 1, added, "{stop} {count}");
+            assert_eq!(rt; left(alloc, &disk, &[count])? == 1, added, "{stop} {count}");
         }
     }
     Ok(())
@@ -93,7 +91,31 @@ fn a_crash_in_a_reset_leaves_the_old_frames_or_none(rt: HostRuntime) -> Result<(
         assert_eq!(rt; log.reset(&mut disk).is_ok(), stop == 4);
         for count in 0..3u64 {
             let kept = stop == 0 || (stop == 1 && count == 0);
-            assert_eq!(rt; left(alloc, &disk, count)? == 1, kept, "{stop} {count}");
+            assert_eq!(rt; left(alloc, &disk, &[count])? == 1, kept, "{stop} {count}");
+        }
+    }
+    Ok(())
+}
+
+// The append has failed at its third call, so its gate may be open. A revive makes four calls.
+#[test]
+fn a_crash_in_a_revive_leaves_the_old_frames_in_the_end(rt: HostRuntime) -> Result<(), Fail> {
+    let alloc = rt.alloc();
+    let frame = Frame::of(alloc, b"hi")?;
+    for stop in 0..5u64 {
+        let mut disk = blank(alloc, &[4], Some(5 + stop))?;
+        let (mut log, _) = scan(alloc, &mut disk, 0)?;
+        assert_eq!(rt; log.append(&mut disk, &frame), Err(LogRefusal::Fault));
+        assert_eq!(rt; log.revive(&mut disk).is_ok(), stop == 4);
+        for opened in 0..2u64 {
+            for closed in 0..2u64 {
+                let added = opened > 0 && (stop == 0 || (stop == 1 && closed == 0));
+                assert_eq!(rt;
+                    left(alloc, &disk, &[opened, closed])? == 1,
+                    added,
+                    "{stop}"
+                );
+            }
         }
     }
     Ok(())
@@ -111,9 +133,9 @@ fn each_fault_is_revived(rt: HostRuntime) -> Result<(), Fail> {
         assert_eq!(rt; log.append(&mut disk, &frame), Err(LogRefusal::Down));
         assert_eq!(rt; log.reset(&mut disk), Err(LogRefusal::Down));
         log.revive(&mut disk)?;
-        assert_eq!(rt; (left(alloc, &disk, 14)?, disk.unsure(0)), (0, 0));
+        assert_eq!(rt; (left(alloc, &disk, &[14])?, disk.unsure(0)), (0, 0));
         log.append(&mut disk, &frame)?;
-        assert_eq!(rt; left(alloc, &disk, 14)?, 1);
+        assert_eq!(rt; left(alloc, &disk, &[14])?, 1);
     }
     Ok(())
 }
