@@ -1,0 +1,108 @@
+-- The entries of accepted turns.
+use Rattle.std.proofs.Common.{◌≡◌, ◌<◌, ◌+◌, ℕ, zero, suc, ◌-◌, List, [], ◌∷◌, ◌++◌, length, take, drop, Bool, true, false, if◌then◌else◌, refl, sym, ◌∙◌, ap, subst, inl, inr, ⊎_elim, Option, Some, None, map, drop-cons, length-append, arith}
+use Rattle.std.specs.List.{flat_map, slice_get, find}
+use Rattle.std.proofs.lemmas.Grind.{flat_map-append}
+use Rattle.std.proofs.lemmas.List.{take-append-drop}
+use Rattle.std.proofs.lemmas.Option.{slice_get_within, get_or_from_slice_get, slice_get-get_or}
+use Rattle.std.proofs.Math.Seq.{get_or-append_seam}
+use Rattle.doc_model.specs.Operations.{uri_of}
+use Rattle.doc_model.specs.declared.entry.Entry.{Entry}
+use Rattle.doc_model.specs.declared.op.Op.{Op}
+use Rattle.std.specs.Prelude.{nat_lt}
+use Rattle.doc_meaning.specs.History.{Base, History, front, merge, latest}
+use Rattle.doc_meaning.specs.Replies.{unless_twice, unless_conflict, first_twice, differs, is_spent}
+use Rattle.doc_meaning.specs.declared.replies.CommitReply.TheVariants as committed
+use Rattle.doc_meaning.specs.declared.replies.ForgetReply.TheVariants as forgot
+use Rattle.transcript.specs.Laws.{Enters, HistoryHasEachOnce}
+use Rattle.transcript.specs.Legal.{IsTurn, Answers, UnlessDown, is_stopped}
+use Rattle.transcript.specs.Turns as turns
+use Rattle.transcript.specs.Turns.{Event, Answer, Turn, entries_of, history_of, down_of}
+
+take_more : {X : Type 0} (xs : List X) (k : ℕ) (x : X) → slice_get xs k ≡ Some x → take (suc k) xs ≡ take k xs ++ x ∷ []
+take_more [] k x is = absurd (none_is is)
+  where
+    none_is : None ≡ Some x → ⊥
+    none_is e = cc
+take_more (y ∷ xs) zero x is = let same : y ≡ x = cc in ap (λ (e : _). e ∷ []) same
+take_more (y ∷ xs) (suc k) x is = ap (λ (l : List _). y ∷ l) (take_more xs k x is)
+
+-- what one element of a list adds stands behind what those before it add
+pub stands : {X Y : Type 0} (f : X → List Y) (xs : List X) (k : ℕ) (x : X) (y : Y) → slice_get xs k ≡ Some x → f x ≡ y ∷ [] →
+    slice_get (flat_map f xs) (length (flat_map f (take k xs))) ≡ Some y
+stands {X} {Y} f xs k x y here adds =
+    let lt = slice_get_within xs k x here in
+    let split : xs ≡ take k xs ++ x ∷ drop (suc k) xs =
+    sym (take-append-drop k xs) ∙ ap (λ (l : List X). take k xs ++ l) (drop-cons xs k x lt ∙ ap (λ (e : X). e ∷ drop (suc k) xs) (get_or_from_slice_get xs k x x here)) in
+    let before : List Y = flat_map f (take k xs) in
+    let behind : List Y = flat_map f (drop (suc k) xs) in
+    let whole : flat_map f xs ≡ before ++ y ∷ behind =
+    ap (flat_map f) split ∙ (flat_map-append f (take k xs) (x ∷ drop (suc k) xs) ∙ ap (λ (l : List Y). before ++ (l ++ behind)) adds) in
+    let within : length before < length (before ++ y ∷ behind) = omega (arith, length-append before (y ∷ behind)) in
+    ap (λ (l : List Y). slice_get l (length before)) whole
+    ∙ (slice_get-get_or (before ++ y ∷ behind) (length before) y within ∙ ap (λ (e : Y). Some e) (get_or-append_seam before y behind y))
+
+entered : (h : History) (at : ℕ) (twice : Option (List ℕ)) (conflict : Option Op) (spent : Bool) →
+    unless_twice twice (unless_conflict h conflict (if spent then committed.Spent (front h) else committed.Entered (front h + 1))) ≡ committed.Entered at → at ≡ front h + 1
+entered h at (Some uri) conflict spent is = absurd (cc)
+entered h at None (Some op) spent is = absurd (cc)
+entered h at None None true is = absurd (cc)
+entered h at None None false is = cc
+
+forgotten : (h : History) (at to : ℕ) (back ahead spent : Bool) (merged : ℕ) →
+    (if back then forgot.Back to merged else if ahead then forgot.Ahead to (front h) else if spent then forgot.Spent (front h) else forgot.Entered (front h + 1)) ≡ forgot.Entered at → at ≡ front h + 1
+forgotten h at to true ahead spent merged is = absurd (cc)
+forgotten h at to false true spent merged is = absurd (cc)
+forgotten h at to false false true merged is = absurd (cc)
+forgotten h at to false false false merged is = cc
+
+-- what a legal turn that is no want of memory and not stopped is answered
+answered : {Defined : Type 0} (stopped : Bool) (count : Option ℕ) (answer : Answer) → ((n : ℕ) → answer ≡ turns.down n → ⊥) → UnlessDown stopped count answer Defined → Defined
+answered true (Some n) answer differs is = absurd (differs n is)
+answered true None answer differs is = is
+answered false count answer differs is = is
+
+commit_at : (base : Base) (longest : ℕ) (before : List Turn) (turn : Turn) (ops : List Op) (at : ℕ) →
+    turn.call ≡ turns.commit ops → turn.answer ≡ turns.commits (committed.Entered at) → IsTurn base longest before turn → at ≡ front (history_of base before) + 1
+commit_at base longest before turn ops at asks says legal =
+    let h = history_of base before in
+    ⊎_elim
+    (λ lacks. absurd (cc))
+    (λ is. ⊎_elim
+    (λ defined. entered h at (first_twice [] (map uri_of ops)) (find (differs (latest h)) ops) (is_spent defined.0 h) cc)
+    (λ failed. absurd (cc))
+    (answered true (down_of before) turn.answer (λ n e. absurd (cc)) (subst (λ (c : Event). UnlessDown (is_stopped c) (down_of before) turn.answer (Answers base longest before c turn.answer)) asks is)))
+    legal.answers
+
+forget_at : (base : Base) (longest : ℕ) (before : List Turn) (turn : Turn) (to at : ℕ) →
+    turn.call ≡ turns.forget to → turn.answer ≡ turns.forgets (forgot.Entered at) → IsTurn base longest before turn → at ≡ front (history_of base before) + 1
+forget_at base longest before turn to at asks says legal =
+    let h = history_of base before in
+    ⊎_elim
+    (λ lacks. absurd (cc))
+    (λ is. ⊎_elim
+    (λ defined. forgotten h at to (nat_lt to (merge h)) (nat_lt (front h) to) (is_spent defined.0 h) (merge h) cc)
+    (λ failed. absurd (cc))
+    (answered true (down_of before) turn.answer (λ n e. absurd (cc)) (subst (λ (c : Event). UnlessDown (is_stopped c) (down_of before) turn.answer (Answers base longest before c turn.answer)) asks is)))
+    legal.answers
+
+-- it makes its entry, at the timestamp behind those before it
+enters : (base : Base) (longest : ℕ) (before : List Turn) (turn : Turn) (at : ℕ) (made : Entry) → Enters turn at made → IsTurn base longest before turn
+    → (at ≡ front (history_of base before) + 1) × (entries_of turn.call turn.answer ≡ made ∷ [])
+enters base longest before turn at made (inl (ops, asks, says, is)) legal =
+    (commit_at base longest before turn ops at asks says legal, rw (asks, says, is) refl)
+enters base longest before turn at made (inr (to, asks, says, is)) legal =
+    (forget_at base longest before turn to at asks says legal, rw (asks, says, is) refl)
+
+pub history_has_each_once : HistoryHasEachOnce
+history_has_each_once base longest list k at turn made legal here is =
+    let f : Turn → List Entry = λ t. entries_of t.call t.answer in
+    let one_more : k + 1 ≡ suc k = omega arith in
+    let (next, makes) = enters base longest (take k list) turn at made is (legal k turn here) in
+    let adds : flat_map f (take k list ++ turn ∷ []) ≡ flat_map f (take k list) ++ made ∷ [] =
+    flat_map-append f (take k list) (turn ∷ []) ∙ ap (λ (es : List Entry). flat_map f (take k list) ++ (es ++ [])) makes in
+    let more : front (history_of base (take (k + 1) list)) ≡ front (history_of base (take k list)) + 1 =
+    ap (λ (l : List Turn). front (history_of base l)) (ap (λ (n : ℕ). take n list) one_more ∙ take_more list k turn here)
+    ∙ (ap (λ (es : List Entry). base.front + length es) adds
+    ∙ omega (arith, length-append (flat_map f (take k list)) (made ∷ []))) in
+    let place : at - 1 - base.front ≡ length (flat_map f (take k list)) = omega (arith, next) in
+    (next, next ∙ sym more, ap (λ (n : ℕ). slice_get (flat_map f list) n) place ∙ stands f list k turn made here makes)

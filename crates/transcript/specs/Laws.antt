@@ -1,0 +1,31 @@
+-- Laws of turns and transcripts.
+use Rattle.std.specs.Prelude.{ℕ, ◌≡◌, ◌≢◌, ◌+◌, ◌-◌, ◌⊎◌, List, ◌++◌, take, slice_get, All, Some}
+use Rattle.doc_model.specs.declared.entry.Entry.{Entry}
+use Rattle.doc_model.specs.declared.entry.Entry.TheVariants as entry
+use Rattle.doc_model.specs.declared.op.Op.{Op}
+use Rattle.doc_meaning.specs.History.{Base, front}
+use Rattle.transcript.specs.Legal.{AreLegal}
+use Rattle.transcript.specs.Transcript.{Session, Agrees}
+use Rattle.transcript.specs.Turns.{Turn, history_of, commit, forget, commits, forgets}
+use Rattle.doc_meaning.specs.declared.replies.CommitReply.TheVariants as committed
+use Rattle.doc_meaning.specs.declared.replies.ForgetReply.TheVariants as forgot
+
+-- a session that agrees with turns agrees with them and any further turns of others
+abbrev pub LaterTurnsChangeNothing : Type 0
+LaterTurnsChangeNothing = (base : Base) (turns later : List Turn) (session : Session) →
+    All (λ turn. turn.author ≢ session.author) later → Agrees base turns session → Agrees base (turns ++ later) session
+
+-- the turn is an accepted commit or forget with this timestamp and entry
+abbrev pub Enters : Turn → ℕ → Entry → Type 0
+Enters turn at made =
+    ((ops : List Op)
+        × (turn.call ≡ commit ops) × (turn.answer ≡ commits (committed.Entered at)) × (made ≡ entry.Commit ops))
+    ⊎ ((to : ℕ) × (turn.call ≡ forget to) × (turn.answer ≡ forgets (forgot.Entered at)) × (made ≡ entry.Forget to))
+
+-- the history of legal turns has the entry of each accepted commit and forget at the timestamp that it was answered:
+-- the turns before it end one below, and with it they end there
+abbrev pub HistoryHasEachOnce : Type 0
+HistoryHasEachOnce = (base : Base) (longest : ℕ) (turns : List Turn) (k at : ℕ) (turn : Turn) (made : Entry) →
+    AreLegal base longest turns → slice_get turns k ≡ Some turn → Enters turn at made →
+    (at ≡ front (history_of base (take k turns)) + 1) × (at ≡ front (history_of base (take (k + 1) turns)))
+    × (slice_get (history_of base turns).entries (at - 1 - base.front) ≡ Some made)

@@ -1,0 +1,12 @@
+ghost use Rattle.transcript.specs.Laws.{HistoryHasEachOnce, LaterTurnsChangeNothing};
+
+/// A session that agrees with turns agrees with them and any further turns of others.
+pub fn later_turns_change_nothing()
+    ensures { LaterTurnsChangeNothing }
+{}
+
+/// The history of legal turns has the entry of each accepted commit and forget once, in order, at the timestamp that
+/// it was answered.
+pub fn history_has_each_once()
+    ensures { HistoryHasEachOnce }
+{}

@@ -1,0 +1,7 @@
+/// What maintenance is asked to do.
+#[derive(Clone, Copy, Debug, PartialEq, Eq)]
+pub enum Wish {
+    Save,
+    Merge,
+    Stop,
+}
