@@ -1,9 +1,10 @@
 -- A field that is read is the field that was written, and what was written is read again.
-use Rattle.std.proofs.Common.{◌≡◌, ℕ, ℤ, ◌^◌, ◌<◌, ◌≤◌, Bool, true, false, cond, nat_lt, ltb, List, ◌++◌, length, take, drop, Result, Ok, Err, refl, sym, ap, subst, ◌∙◌, append_assoc, arith}
+use Rattle.std.proofs.Common.{◌≡◌, ℕ, ℤ, pos, negsuc, ◌-◌, ◌^◌, ◌<◌, ◌≤◌, Bool, true, false, cond, nat_lt, ltb}
+use Rattle.std.proofs.Common.{List, ◌++◌, length, take, drop, Result, Ok, Err, refl, sym, ap, subst, ◌∙◌, append_assoc, arith}
 use Rattle.std.specs.Int.{w128, cast_signed, cast_unsigned}
 use Rattle.std.specs.Str.{is_utf8}
-use Rattle.std.proofs.lemmas.Bool.{ltb-false, le-ltb}
-use Rattle.std.proofs.lemmas.Int.{of_z-to_z}
+use Rattle.std.proofs.lemmas.Bool.{and_parts, ltb-true, ltb-false, le-ltb}
+use Rattle.std.proofs.lemmas.Int.{of_z-to_z, to_z-of_z}
 use Rattle.std.proofs.lemmas.List.{take_at, drop_at, take-append-drop, length-append, length-take-le}
 use Rattle.byteorder.specs.Endian.{big_number, big_bytes}
 use Rattle.byteorder.specs.Numbers.{big_from-lt, big_from-take, big_number-reads_back, length-bytes_high_first}
@@ -130,3 +131,20 @@ number_takes bytes x fits e =
     let same : cast_unsigned w128 (cast_signed w128 a.0.0) ≡ a.0.0 = of_z-to_z w128 a.0.0 t.1 in
     let made : ℤ × List ℕ = (cast_signed w128 a.0.0, a.0.1) in
     (subst (λ (y : ℤ × List ℕ). Takes bytes (big_bytes 16 (cast_unsigned w128 y.0)) y.1) (ok_is made x a.2) (subst (λ (n : ℕ). Takes bytes (big_bytes 16 n) a.0.1) (sym same) t.0), k.1)
+
+unsigned_fits : (units : ℤ) → is_decimal units ≡ true
+    → (cast_unsigned w128 units < 256 ^ 16) × (cast_signed w128 (cast_unsigned w128 units) ≡ units)
+unsigned_fits (pos n) h =
+    let lt : n < 10 ^ 38 = ltb-true n (10 ^ 38) (and_parts true (ltb n (10 ^ 38)) h).1 in
+    (omega (arith, lt), to_z-of_z w128 (pos n) (record { sfits = omega (arith, lt) }))
+unsigned_fits (negsuc n) h =
+    let lt : n < 10 ^ 38 - 1 = ltb-true n (10 ^ 38 - 1) (and_parts (ltb n (10 ^ 38 - 1)) true h).0 in
+    (omega (arith, lt), to_z-of_z w128 (negsuc n) (record { sfits = omega (arith, lt) }))
+
+pub number_again : (units : ℤ) (rest : List ℕ) → is_decimal units ≡ true
+    → number_at (number units ++ rest) ≡ Ok (units, rest)
+unfolding number_at units_at number
+number_again units rest h =
+    let f = unsigned_fits units h in
+    kept is_decimal units_at (number units ++ rest) (units, rest)
+    (rw (wide_again 16 (cast_unsigned w128 units) rest f.0, f.1) refl) h

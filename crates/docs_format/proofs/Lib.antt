@@ -1,9 +1,13 @@
 pub mod Keeping
-pub mod Lists
-pub mod Parts
 pub mod Seen
 pub mod Digits
 pub mod Fields
 pub mod Trees
+pub mod Sizes
+pub mod Lists
+pub mod Parts
+pub mod Rules
 pub mod Takes
+pub mod CollectionsAgain
+pub mod NodesAgain
 pub mod Again

@@ -1,11 +1,12 @@
 -- Reading from left to right, as far as the first field that doesn't fit.
-use Rattle.std.specs.Prelude.{ℕ, zero, suc, ℤ, ◌-◌, Bool, true, false, ◌&&◌, not, nat_lt, nat_le, ◌==◌, List, [], ◌∷◌, ◌++◌, map, length, take, drop, is_none, Result, Ok, Err, if◌then◌else◌}
+use Rattle.std.specs.Prelude.{ℕ, zero, suc, ℤ, ◌-◌, ◌^◌, Bool, true, false, ◌&&◌, not, nat_lt, nat_le, ◌==◌, List, [], ◌∷◌}
+use Rattle.std.specs.Prelude.{◌++◌, map, length, take, drop, Result, Ok, Err, if◌then◌else◌}
 use Rattle.std.specs.Cmp.Lexicographic.{slice_cmp}
 use Rattle.std.specs.Int.{w128, cast_signed}
 use Rattle.std.specs.Ordering.{nat_cmp, is_lt}
 use Rattle.std.specs.Str.{is_utf8}
 use Rattle.byteorder.specs.Endian.{big_number}
-use Rattle.doc_model.specs.Documents.{PlainDocument, broken_rule}
+use Rattle.doc_model.specs.Documents.{PlainDocument, document_size}
 use Rattle.doc_model.specs.Tree.{is_among}
 use Rattle.doc_model.specs.Uri.{is_name, is_uri}
 use Rattle.doc_model.specs.declared.node.Node.{Node}
@@ -138,13 +139,13 @@ document_at bytes = do
   root ← node_at 128 collections.1
   Ok (record { uri = uri.0; collections = collections.0; root = root.0 }, root.1)
 
--- a document with no byte behind it; where a rule isn't kept that no field shows, as that of the size, the fault is at the first byte
+-- a document with no byte behind it; one that is too large in all doesn't fit at its first byte
 unfoldable pub whole_of : List ℕ → Result PlainDocument ℕ
 whole_of bytes = do
   d ← document_at bytes
   if not (length d.1 == 0) then Err (length d.1)
-      else if is_none (broken_rule d.0) then Ok d.0
-      else Err (length bytes)
+      else if nat_lt (2 ^ 24) (document_size d.0) then Err (length bytes)
+      else Ok d.0
 
 -- the place of a fault in bytes of this length
 abbrev pub placed : ℕ → Result PlainDocument ℕ → Result PlainDocument ℕ

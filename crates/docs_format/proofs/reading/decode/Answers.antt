@@ -4,7 +4,8 @@ use Rattle.docs_format.proofs.Takes.{is_found}
 use Rattle.docs_format.proofs.reading.decode.Goals as goal
 
 pub returns-clause-found : goal.returns-clause-found
-returns-clause-found c = is_found c.args.bytes.now c.placed.result (λ i. omega (arith, c.type_inv.bytes i)) c.placed.ensures
+returns-clause-found c =
+    is_found c.args.bytes.now c.placed.result (λ i. omega (arith, c.type_inv.bytes i)) c.placed.ensures
 
 pub returns-clause-only : goal.returns-clause-only
 returns-clause-only c = λ d s. is_only c.args.bytes.now c.placed.result d s c.placed.ensures
