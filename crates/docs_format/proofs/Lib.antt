@@ -11,3 +11,5 @@ pub mod Takes
 pub mod CollectionsAgain
 pub mod NodesAgain
 pub mod Again
+pub mod Forward
+pub mod Places

@@ -212,7 +212,8 @@ document_kept bytes x e =
     let b = bind_ok (collections_at a.0.1) (root_at a.0) x a.2 in
     let c = bind_ok (node_at 128 b.0.1) (λ root. Ok (made a.0 b.0 root)) x b.2 in
     let n = node_kept 128 b.0.1 c.0 c.1 in
-    subst (λ (y : PlainDocument × List ℕ). KeepsFields y.0) (ok_is (made a.0 b.0 c.0) x c.2) record {
+    let all : PlainDocument × List ℕ = made a.0 b.0 c.0 in
+    subst (λ (y : PlainDocument × List ℕ). KeepsFields y.0) {x = all} (ok_is all x c.2) record {
       uri = (kept_ok is_uri text_at bytes a.0 a.1).1;
       collections = collections_kept a.0.1 b.0 b.1;
       depth = n.0;

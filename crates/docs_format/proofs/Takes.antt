@@ -212,7 +212,8 @@ document_takes bytes x fits e =
     let u = uri_takes bytes a.0 fits a.1 in
     let l = collections_take a.0.1 b.0 u.0.rest_fits b.1 in
     let n = node_takes 128 b.0.1 c.0 l.0.rest_fits c.1 in
-    subst (λ (y : PlainDocument × List ℕ). IsDocumentRead bytes y) (ok_is (made a.0 b.0 c.0) x c.2)
+    let all : PlainDocument × List ℕ = made a.0 b.0 c.0 in
+    subst (λ (y : PlainDocument × List ℕ). IsDocumentRead bytes y) {x = all} (ok_is all x c.2)
     (joined bytes a.0 b.0 c.0 (u.0, u.1) l n)
 
 is_true : (b : Bool) → b ≡ true → IsTrue b

@@ -1,5 +1,5 @@
 -- What the code answers, and what reading gives.
-use Rattle.std.specs.Prelude.{◌≡◌, ℕ, List, Result, Ok, Err}
+use Rattle.std.specs.Prelude.{◌≡◌, ◌≤◌, ℕ, List, Result, Ok, Err}
 use Rattle.std.specs.Borrow.{Bor}
 use Rattle.std.specs.BTreeMap.{BTreeMap, get_by}
 use Rattle.std.specs.Cmp.Lexicographic.{slice_cmp}
@@ -28,6 +28,12 @@ Answers (Ok d) read = read ≡ Ok d
 Answers (Err bad.Memory) read = Unit {0}
 Answers (Err (bad.Bad place)) read = read ≡ Err place
 
+-- a fault is at one of so many bytes or at their end
+abbrev pub IsPlaced : ℕ → DocBytesBad → Type 0
+IsPlaced len bad.Memory = Unit {0}
+IsPlaced len (bad.Bad place) = place ≤ len
+
 -- the keys of a map are these names
 abbrev pub HasNames : BTreeMap (Bor (List ℕ)) Unit → List (List ℕ) → Type 0
-HasNames seen names = (name : List ℕ) → is_some (get_by (λ key. slice_cmp nat_cmp name key.now) seen) ≡ is_among names name
+HasNames seen names =
+    (name : List ℕ) → is_some (get_by (λ key. slice_cmp nat_cmp name key.now) seen) ≡ is_among names name

@@ -3,6 +3,7 @@
 
 mod collections;
 mod fault;
+mod laws;
 mod names;
 mod nodes;
 mod reader;
@@ -10,6 +11,7 @@ mod reading;
 mod writing;
 
 pub use fault::DocBytesBad;
+pub use laws::{beginnings_end_early, faults_stay, more_is_too_many};
 pub use reading::decode;
 pub use writing::encode;
 

@@ -1,6 +1,6 @@
-ghost use Rattle.std.specs.Prelude.{◌≡◌, IfOk, Ok};
+ghost use Rattle.std.specs.Prelude.{◌≡◌, length, IfErr, IfOk, Ok};
 ghost use Rattle.doc_model.specs.Documents.{PlainDocument};
-ghost use Rattle.docs_format.specs.Answers.{Answers, Gives};
+ghost use Rattle.docs_format.specs.Answers.{Answers, Gives, IsPlaced};
 ghost use Rattle.docs_format.specs.Reading.{document_of, whole_of};
 ghost use Rattle.docs_format.specs.Spelling.{Spells};
 
@@ -20,11 +20,13 @@ pub fn decode(alloc: Global, bytes: &[u8]) -> Result<Document, DocBytesBad>
     ensures found { IfOk result (λ d. Spells bytes.now d) }
     ensures only { (d : PlainDocument) → Spells bytes.now d → Answers result (Ok d) }
     ensures exact { Answers result (document_of bytes.now) }
+    ensures within { IfErr result (IsPlaced (length bytes.now)) }
 {
     placed(alloc, bytes)
 }
 
 /// The document, or the place of the fault.
+#[tactic(auto, using(crate::proofs::Places::left_within))]
 fn placed(alloc: Global, bytes: &[u8]) -> Result<Document, DocBytesBad>
     ensures { Answers result (document_of bytes.now) }
 {
@@ -32,7 +34,7 @@ fn placed(alloc: Global, bytes: &[u8]) -> Result<Document, DocBytesBad>
         Ok(document) => Ok(document),
         Err(Stop::Memory) => Err(DocBytesBad::Memory),
         Err(Stop::Left(left)) => Err(DocBytesBad::Bad {
-            place: bytes.len().saturating_sub(left) as u64,
+            place: (bytes.len() - left) as u64,
         }),
     }
 }
