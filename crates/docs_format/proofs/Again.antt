@@ -1,6 +1,7 @@
 -- A document that was written is read again.
 use Rattle.std.proofs.Common.{◌≡◌, ℕ, ◌^◌, ◌≤◌, Bool, true, false, cond, ◌&&◌, not, nat_lt, List, [], ◌++◌}
-use Rattle.std.proofs.Common.{Result, Ok, is_none, Option, Some, None, refl, sym, ap, subst, ◌∙◌, append_assoc, arith, rules}
+use Rattle.std.proofs.Common.{Result, Ok, is_none, Option, Some, None, refl, sym, ap, subst, ◌∙◌, append_assoc}
+use Rattle.std.proofs.Common.{arith, rules}
 use Rattle.std.specs.Prelude.{IsTrue}
 use Rattle.std.specs.List.{list_all}
 use Rattle.std.specs.Str.{is_utf8}
@@ -58,7 +59,8 @@ document_again d rest k v =
     let texts : List ℕ = spell.texts d.collections in
     let root_bytes : List ℕ = spell.node d.root ++ rest in
     let regrouped : spell.document d ++ rest ≡ spell.text d.uri ++ (texts ++ root_bytes) =
-    append_assoc (spell.text d.uri ++ texts) (spell.node d.root) rest ∙ append_assoc (spell.text d.uri) texts root_bytes in
+    append_assoc (spell.text d.uri ++ texts) (spell.node d.root) rest
+    ∙ append_assoc (spell.text d.uri) texts root_bytes in
     let uri = uri_again d.uri (texts ++ root_bytes) (omega (arith, k.size)) us.0 k.uri in
     let collections = collections_again d.collections root_bytes k.collections us.1 in
     let root = node_again 128 d.root rest

@@ -1,5 +1,6 @@
 -- Collections that were written are read again.
-use Rattle.std.proofs.Common.{◌≡◌, ℕ, ◌^◌, ◌<◌, ◌≤◌, Bool, true, ◌&&◌, nat_le, List, [], ◌∷◌, ◌++◌, length, Ok, refl, sym, ap}
+use Rattle.std.proofs.Common.{◌≡◌, ℕ, ◌^◌, ◌<◌, ◌≤◌, Bool, true, ◌&&◌, nat_le, List, [], ◌∷◌, ◌++◌, length, Ok}
+use Rattle.std.proofs.Common.{refl, sym, ap}
 use Rattle.std.proofs.Common.{◌∙◌, append_assoc, arith}
 use Rattle.std.specs.Cmp.Lexicographic.{slice_cmp}
 use Rattle.std.specs.List.{flat_map, list_all}
@@ -62,7 +63,8 @@ collections_again list rest c u =
     let counted : List ℕ = spell.count (length list) in
     let behind : List ℕ = flat_map spell.text list ++ rest in
     let f = names_follow list [] few.1 (first_rises list few.1 rising.1) u in
-    let regrouped : spell.texts list ++ rest ≡ counted ++ behind = append_assoc counted (flat_map spell.text list) rest in
+    let regrouped : spell.texts list ++ rest ≡ counted ++ behind =
+    append_assoc counted (flat_map spell.text list) rest in
     ap collections_at regrouped
     ∙ collections_are (counted ++ behind) (length list) behind
     (count_again (length list) behind (omega (arith, small))) small

@@ -1,6 +1,7 @@
 -- A field that is read is the field that was written, and what was written is read again.
 use Rattle.std.proofs.Common.{◌≡◌, ℕ, ℤ, pos, negsuc, ◌-◌, ◌^◌, ◌<◌, ◌≤◌, Bool, true, false, cond, nat_lt, ltb}
-use Rattle.std.proofs.Common.{List, ◌++◌, length, take, drop, Result, Ok, Err, refl, sym, ap, subst, ◌∙◌, append_assoc, arith}
+use Rattle.std.proofs.Common.{List, ◌++◌, length, take, drop, Result, Ok, Err, refl, sym, ap, subst, ◌∙◌}
+use Rattle.std.proofs.Common.{append_assoc, arith}
 use Rattle.std.specs.Int.{w128, cast_signed, cast_unsigned}
 use Rattle.std.specs.Str.{is_utf8}
 use Rattle.std.proofs.lemmas.Bool.{and_parts, ltb-true, ltb-false, le-ltb}
@@ -10,12 +11,14 @@ use Rattle.byteorder.specs.Endian.{big_number, big_bytes}
 use Rattle.byteorder.specs.Numbers.{big_from-lt, big_from-take, big_number-reads_back, length-bytes_high_first}
 use Rattle.doc_model.specs.Uri.{is_uri}
 use Rattle.docs_format.specs.Spelling.{count, number, text, is_decimal}
-use Rattle.docs_format.specs.Reading.{◌>>=◌, Read, keeping, wide_at, count_at, units_at, number_at, bytes_at, text_at, uri_at}
+use Rattle.docs_format.specs.Reading.{◌>>=◌, Read, keeping, wide_at, count_at, units_at, number_at, bytes_at}
+use Rattle.docs_format.specs.Reading.{text_at, uri_at}
 use Rattle.docs_format.proofs.Digits.{IsBytes, IsBytes-drop, IsBytes-take, digits_back}
 use Rattle.docs_format.proofs.Keeping.{kept}
 
 -- the value of a step that didn't fail
-pub bind_ok : {X Y : Type 0} (r : Result X ℕ) (f : X → Result Y ℕ) (y : Y) → (r >>= f) ≡ Ok y → (x : X) × (r ≡ Ok x) × (f x ≡ Ok y)
+pub bind_ok : {X Y : Type 0} (r : Result X ℕ) (f : X → Result Y ℕ) (y : Y) → (r >>= f) ≡ Ok y
+    → (x : X) × (r ≡ Ok x) × (f x ≡ Ok y)
 bind_ok (Ok x) f y e = (x, refl, e)
 bind_ok (Err left) f y e = absurd cc
 
@@ -34,7 +37,8 @@ done x = Ok x
 pub ok_is : {X : Type 0} (x y : X) → done x ≡ done y → x ≡ y
 ok_is x y e = cc
 
-pub kept_ok : {X : Type 0} (rule : X → Bool) (field_at : List ℕ → Read X) (bytes : List ℕ) (x : X × List ℕ) → keeping rule field_at bytes ≡ Ok x → (field_at bytes ≡ Ok x) × (rule x.0 ≡ true)
+pub kept_ok : {X : Type 0} (rule : X → Bool) (field_at : List ℕ → Read X) (bytes : List ℕ) (x : X × List ℕ)
+    → keeping rule field_at bytes ≡ Ok x → (field_at bytes ≡ Ok x) × (rule x.0 ≡ true)
 kept_ok rule field_at bytes x e =
     let a = bind_ok (field_at bytes) (λ f. cond (rule f.0) (Ok f) (Err (length bytes))) x e in
     let b = rule_ok (rule a.0.0) (length bytes) a.0 x a.2 in
@@ -46,11 +50,13 @@ pub record Takes (bytes text rest : List ℕ) : Type 0 where
   pub rest_fits : IsBytes rest
 
 pub Takes-then : (a x b y c : List ℕ) → Takes a x b → Takes b y c → Takes a (x ++ y) c
-Takes-then a x b y c p q = record { parts = p.parts ∙ ap (λ (t : List ℕ). x ++ t) q.parts ∙ sym (append_assoc x y c); rest_fits = q.rest_fits }
+Takes-then a x b y c p q =
+    record { parts = p.parts ∙ ap (λ (t : List ℕ). x ++ t) q.parts ∙ sym (append_assoc x y c); rest_fits = q.rest_fits }
 
 -- ---- numbers
 
-wide_takes : (width : ℕ) (bytes : List ℕ) (x : ℕ × List ℕ) → IsBytes bytes → wide_at width bytes ≡ Ok x → Takes bytes (big_bytes width x.0) x.1 × (x.0 < 256 ^ width)
+wide_takes : (width : ℕ) (bytes : List ℕ) (x : ℕ × List ℕ) → IsBytes bytes → wide_at width bytes ≡ Ok x
+    → Takes bytes (big_bytes width x.0) x.1 × (x.0 < 256 ^ width)
 unfolding wide_at
 wide_takes width bytes x fits e =
     let g = guard_ok (ltb (length bytes) width) 0 (big_number width bytes, drop width bytes) x e in
@@ -59,17 +65,21 @@ wide_takes width bytes x fits e =
     ap (big_bytes width) (sym (big_from-take 0 width width bytes (omega arith)))
     ∙ digits_back width (take width bytes) (length-take-le width bytes long) (IsBytes-take width bytes fits) in
     subst (λ (y : ℕ × List ℕ). Takes bytes (big_bytes width y.0) y.1 × (y.0 < 256 ^ width)) g.1
-    (record { parts = sym (take-append-drop width bytes) ∙ ap (λ (t : List ℕ). t ++ drop width bytes) (sym front); rest_fits = IsBytes-drop width bytes fits }, big_from-lt 0 width bytes fits)
+    (record { parts = sym (take-append-drop width bytes) ∙ ap (λ (t : List ℕ). t ++ drop width bytes)
+      (sym front); rest_fits = IsBytes-drop width bytes fits }, big_from-lt 0 width bytes fits)
 
-pub wide_again : (width n : ℕ) (rest : List ℕ) → n < 256 ^ width → wide_at width (big_bytes width n ++ rest) ≡ Ok (n, rest)
+pub wide_again : (width n : ℕ) (rest : List ℕ) → n < 256 ^ width
+    → wide_at width (big_bytes width n ++ rest) ≡ Ok (n, rest)
 unfolding wide_at
 wide_again width n rest lt =
     let len : length (big_bytes width n) ≡ width = length-bytes_high_first width n in
-    let long : nat_lt (length (big_bytes width n ++ rest)) width ≡ false = le-ltb (length (big_bytes width n ++ rest)) width (omega (arith, length-append (big_bytes width n) rest, len)) in
+    let long : nat_lt (length (big_bytes width n ++ rest)) width ≡ false =
+    le-ltb (length (big_bytes width n ++ rest)) width (omega (arith, length-append (big_bytes width n) rest, len)) in
     let behind : drop width (big_bytes width n ++ rest) ≡ rest = drop_at (big_bytes width n) rest width len in
     rw (long, big_number-reads_back width n rest lt, behind) refl
 
-pub count_takes : (bytes : List ℕ) (x : ℕ × List ℕ) → IsBytes bytes → count_at bytes ≡ Ok x → Takes bytes (count x.0) x.1 × (x.0 < 2 ^ 32)
+pub count_takes : (bytes : List ℕ) (x : ℕ × List ℕ) → IsBytes bytes → count_at bytes ≡ Ok x
+    → Takes bytes (count x.0) x.1 × (x.0 < 2 ^ 32)
 unfolding count_at count
 count_takes bytes x fits e = wide_takes 4 bytes x fits e
 
@@ -82,12 +92,15 @@ count_again n rest lt = wide_again 4 n rest lt
 bytes_take : (bytes : List ℕ) (x : List ℕ × List ℕ) → IsBytes bytes → bytes_at bytes ≡ Ok x → Takes bytes (text x.0) x.1
 unfolding bytes_at
 bytes_take bytes x fits e =
-    let a = bind_ok (count_at bytes) (λ len. cond (ltb (length len.1) len.0) (Err 0) (Ok (take len.0 len.1, drop len.0 len.1))) x e in
+    let a =
+    bind_ok (count_at bytes)
+    (λ len. cond (ltb (length len.1) len.0) (Err 0) (Ok (take len.0 len.1, drop len.0 len.1))) x e in
     let g = guard_ok (ltb (length a.0.1) a.0.0) 0 (take a.0.0 a.0.1, drop a.0.0 a.0.1) x a.2 in
     let first = count_takes bytes a.0 fits a.1 in
     let long : a.0.0 ≤ length a.0.1 = ltb-false (length a.0.1) a.0.0 g.0 in
     let len : length (take a.0.0 a.0.1) ≡ a.0.0 = length-take-le a.0.0 a.0.1 long in
-    let second : Takes a.0.1 (take a.0.0 a.0.1) (drop a.0.0 a.0.1) = record { parts = sym (take-append-drop a.0.0 a.0.1); rest_fits = IsBytes-drop a.0.0 a.0.1 first.0.rest_fits } in
+    let second : Takes a.0.1 (take a.0.0 a.0.1) (drop a.0.0 a.0.1) =
+    record { parts = sym (take-append-drop a.0.0 a.0.1); rest_fits = IsBytes-drop a.0.0 a.0.1 first.0.rest_fits } in
     let both = Takes-then bytes (count a.0.0) a.0.1 (take a.0.0 a.0.1) (drop a.0.0 a.0.1) first.0 second in
     subst (λ (y : List ℕ × List ℕ). Takes bytes (text y.0) y.1) g.1
     (subst (λ (n : ℕ). Takes bytes (count n ++ take a.0.0 a.0.1) (drop a.0.0 a.0.1)) (sym len) both)
@@ -96,10 +109,14 @@ bytes_again : (t rest : List ℕ) → length t < 2 ^ 32 → bytes_at (text t ++ 
 unfolding bytes_at
 bytes_again t rest lt =
     let regrouped : text t ++ rest ≡ count (length t) ++ (t ++ rest) = append_assoc (count (length t)) t rest in
-    let long : nat_lt (length (t ++ rest)) (length t) ≡ false = le-ltb (length (t ++ rest)) (length t) (omega (arith, length-append t rest)) in
-    ap bytes_at regrouped ∙ rw (count_again (length t) (t ++ rest) lt, long, take_at t rest (length t) refl, drop_at t rest (length t) refl) refl
+    let long : nat_lt (length (t ++ rest)) (length t) ≡ false =
+    le-ltb (length (t ++ rest)) (length t) (omega (arith, length-append t rest)) in
+    ap bytes_at regrouped
+    ∙ rw
+    (count_again (length t) (t ++ rest) lt, long, take_at t rest (length t) refl, drop_at t rest (length t) refl) refl
 
-pub text_takes : (bytes : List ℕ) (x : List ℕ × List ℕ) → IsBytes bytes → text_at bytes ≡ Ok x → Takes bytes (text x.0) x.1 × (is_utf8 x.0 ≡ true)
+pub text_takes : (bytes : List ℕ) (x : List ℕ × List ℕ) → IsBytes bytes → text_at bytes ≡ Ok x
+    → Takes bytes (text x.0) x.1 × (is_utf8 x.0 ≡ true)
 unfolding text_at
 text_takes bytes x fits e =
     let k = kept_ok is_utf8 bytes_at bytes x e in
@@ -109,20 +126,23 @@ pub text_again : (t rest : List ℕ) → length t < 2 ^ 32 → is_utf8 t ≡ tru
 unfolding text_at
 text_again t rest lt utf8 = kept is_utf8 bytes_at (text t ++ rest) (t, rest) (bytes_again t rest lt) utf8
 
-pub uri_takes : (bytes : List ℕ) (x : List ℕ × List ℕ) → IsBytes bytes → uri_at bytes ≡ Ok x → Takes bytes (text x.0) x.1 × (is_utf8 x.0 ≡ true) × (is_uri x.0 ≡ true)
+pub uri_takes : (bytes : List ℕ) (x : List ℕ × List ℕ) → IsBytes bytes → uri_at bytes ≡ Ok x
+    → Takes bytes (text x.0) x.1 × (is_utf8 x.0 ≡ true) × (is_uri x.0 ≡ true)
 unfolding uri_at
 uri_takes bytes x fits e =
     let k = kept_ok is_uri text_at bytes x e in
     let t = text_takes bytes x fits k.0 in
     (t.0, t.1, k.1)
 
-pub uri_again : (t rest : List ℕ) → length t < 2 ^ 32 → is_utf8 t ≡ true → is_uri t ≡ true → uri_at (text t ++ rest) ≡ Ok (t, rest)
+pub uri_again : (t rest : List ℕ) → length t < 2 ^ 32 → is_utf8 t ≡ true → is_uri t ≡ true
+    → uri_at (text t ++ rest) ≡ Ok (t, rest)
 unfolding uri_at
 uri_again t rest lt utf8 uri = kept is_uri text_at (text t ++ rest) (t, rest) (text_again t rest lt utf8) uri
 
 -- ---- units
 
-pub number_takes : (bytes : List ℕ) (x : ℤ × List ℕ) → IsBytes bytes → number_at bytes ≡ Ok x → Takes bytes (number x.0) x.1 × (is_decimal x.0 ≡ true)
+pub number_takes : (bytes : List ℕ) (x : ℤ × List ℕ) → IsBytes bytes → number_at bytes ≡ Ok x
+    → Takes bytes (number x.0) x.1 × (is_decimal x.0 ≡ true)
 unfolding number_at units_at number
 number_takes bytes x fits e =
     let k = kept_ok is_decimal units_at bytes x e in
@@ -130,7 +150,8 @@ number_takes bytes x fits e =
     let t = wide_takes 16 bytes a.0 fits a.1 in
     let same : cast_unsigned w128 (cast_signed w128 a.0.0) ≡ a.0.0 = of_z-to_z w128 a.0.0 t.1 in
     let made : ℤ × List ℕ = (cast_signed w128 a.0.0, a.0.1) in
-    (subst (λ (y : ℤ × List ℕ). Takes bytes (big_bytes 16 (cast_unsigned w128 y.0)) y.1) (ok_is made x a.2) (subst (λ (n : ℕ). Takes bytes (big_bytes 16 n) a.0.1) (sym same) t.0), k.1)
+    (subst (λ (y : ℤ × List ℕ). Takes bytes (big_bytes 16 (cast_unsigned w128 y.0)) y.1) (ok_is made x a.2)
+      (subst (λ (n : ℕ). Takes bytes (big_bytes 16 n) a.0.1) (sym same) t.0), k.1)
 
 unsigned_fits : (units : ℤ) → is_decimal units ≡ true
     → (cast_unsigned w128 units < 256 ^ 16) × (cast_signed w128 (cast_unsigned w128 units) ≡ units)

@@ -1,6 +1,7 @@
 -- Reading goes forward: no fault is before the bytes, and more bytes behind them change nothing but an early end.
 use Rattle.std.proofs.Common.{◌≡◌, ℕ, ℤ, zero, suc, ◌+◌, ◌<◌, ◌≤◌, Bool, true, false, cond, not, nat_le, nat_lt, ◌==◌}
-use Rattle.std.proofs.Common.{List, [], ◌∷◌, ◌++◌, length, take, drop, Result, Ok, Err, ◌⊎◌, inl, inr, refl, sym, ap, subst}
+use Rattle.std.proofs.Common.{List, [], ◌∷◌, ◌++◌, length, take, drop, Result, Ok, Err, ◌⊎◌, inl, inr, refl, sym}
+use Rattle.std.proofs.Common.{ap, subst}
 use Rattle.std.proofs.Common.{◌∙◌, arith}
 use Rattle.std.specs.Int.{w128, cast_signed}
 use Rattle.std.specs.Str.{is_utf8}
@@ -14,8 +15,10 @@ use Rattle.doc_model.specs.Uri.{is_uri}
 use Rattle.doc_model.specs.declared.node.Node.{Node}
 use Rattle.doc_model.specs.declared.node.Node.TheVariants as node
 use Rattle.docs_format.specs.Spelling.{is_decimal}
-use Rattle.docs_format.specs.Reading.{◌>>=◌, Read, bytes_at, collection_at, collections_at, count_at, document_at, is_next}
-use Rattle.docs_format.specs.Reading.{items_at, keeping, kind_at, last_of, list_at, member_at, members_at, name_at, names}
+use Rattle.docs_format.specs.Reading.{◌>>=◌, Read, bytes_at, collection_at, collections_at, count_at, document_at}
+use Rattle.docs_format.specs.Reading.{is_next}
+use Rattle.docs_format.specs.Reading.{items_at, keeping, kind_at, last_of, list_at, member_at, members_at, name_at}
+use Rattle.docs_format.specs.Reading.{names}
 use Rattle.docs_format.specs.Reading.{node_at, node_of, number_at, text_at, units_at, uri_at, wide_at}
 
 -- what is left, behind a field or from a fault on, is no more than there was
@@ -40,17 +43,18 @@ gives : {X : Type 0} (len : ℕ) (more : List ℕ) (short longer : Read X) (x : 
 gives len more short longer x rest s l h =
     subst (λ r. Forward len more r longer) (sym s) (record { within = h; stays = l })
 
-ends_early : {X : Type 0} (len : ℕ) (more : List ℕ) (short longer : Read X) → short ≡ Err 0 → Forward len more short longer
+pub ends_early : {X : Type 0} (len : ℕ) (more : List ℕ) (short longer : Read X) → short ≡ Err 0
+    → Forward len more short longer
 ends_early len more short longer s =
     subst (λ r. Forward len more r longer) (sym s) (record { within = omega arith; stays = inl refl })
 
-refuses : {X : Type 0} (bytes more : List ℕ) (short longer : Read X) → short ≡ Err (length bytes)
+pub refuses : {X : Type 0} (bytes more : List ℕ) (short longer : Read X) → short ≡ Err (length bytes)
     → longer ≡ Err (length (bytes ++ more)) → Forward (length bytes) more short longer
 refuses bytes more short longer s l =
     subst (λ r. Forward (length bytes) more r longer) (sym s)
     (record { within = omega arith; stays = inr (l ∙ ap Err (length-append bytes more)) })
 
-wider : {X : Type 0} (n m : ℕ) (more : List ℕ) (short longer : Read X) → n ≤ m
+pub wider : {X : Type 0} (n m : ℕ) (more : List ℕ) (short longer : Read X) → n ≤ m
     → Forward n more short longer → Forward m more short longer
 wider n m more (Ok x) longer le f = record { within = omega (arith, f.within); stays = f.stays }
 wider n m more (Err left) longer le f = record { within = omega (arith, f.within); stays = f.stays }
@@ -69,16 +73,16 @@ step_forward len more (Err left) longer f g a each = record { within = a.within;
     go (inl z) = inl z
     go (inr e) = inr (ap (λ l. l >>= g) e)
 
-chosen_forward : {X : Type 0} (b : Bool) (len : ℕ) (more : List ℕ) (s t l m : Read X)
+pub chosen_forward : {X : Type 0} (b : Bool) (len : ℕ) (more : List ℕ) (s t l m : Read X)
     → Forward len more s l → Forward len more t m → Forward len more (cond b s t) (cond b l m)
 chosen_forward true len more s t l m a b = a
 chosen_forward false len more s t l m a b = b
 
 -- reading these bytes, and these with more behind
-abbrev IsForward : {X : Type 0} → List ℕ → (List ℕ → Read X) → List ℕ → Type 0
+abbrev pub IsForward : {X : Type 0} → List ℕ → (List ℕ → Read X) → List ℕ → Type 0
 IsForward more read bytes = Forward (length bytes) more (read bytes) (read (bytes ++ more))
 
-then_forward : {X Y : Type 0} (more : List ℕ) (read : List ℕ → Read X) (f : X × List ℕ → Read Y) (bytes : List ℕ)
+pub then_forward : {X Y : Type 0} (more : List ℕ) (read : List ℕ → Read X) (f : X × List ℕ → Read Y) (bytes : List ℕ)
     → IsForward more read bytes
     → ((x : X) (rest : List ℕ) → Forward (length rest) more (f (x, rest)) (f (x, rest ++ more)))
     → Forward (length bytes) more (read bytes >>= f) (read (bytes ++ more) >>= f)
@@ -86,18 +90,19 @@ then_forward more read f bytes a each =
     step_forward (length bytes) more (read bytes) (read (bytes ++ more)) f f a
     (λ x rest le. wider (length rest) (length bytes) more (f (x, rest)) (f (x, rest ++ more)) le (each x rest))
 
-keeping_forward : {X : Type 0} (more : List ℕ) (rule : X → Bool) (field_at : List ℕ → Read X) (bytes : List ℕ)
+pub keeping_forward : {X : Type 0} (more : List ℕ) (rule : X → Bool) (field_at : List ℕ → Read X) (bytes : List ℕ)
     → IsForward more field_at bytes → IsForward more (keeping rule field_at) bytes
 keeping_forward {X = X} more rule field_at bytes a =
     let judged : List ℕ → X × List ℕ → Read X = λ all x. cond (rule x.0) (Ok x) (Err (length all)) in
-    step_forward (length bytes) more (field_at bytes) (field_at (bytes ++ more)) (judged bytes) (judged (bytes ++ more)) a
+    step_forward (length bytes) more (field_at bytes) (field_at (bytes ++ more)) (judged bytes)
+    (judged (bytes ++ more)) a
     (λ x rest le. chosen_forward (rule x) (length bytes) more
       (Ok (x, rest)) (Err (length bytes)) (Ok (x, rest ++ more)) (Err (length (bytes ++ more)))
       (gives (length bytes) more (Ok (x, rest)) (Ok (x, rest ++ more)) x rest refl refl le)
       (refuses bytes more (Err (length bytes)) (Err (length (bytes ++ more))) refl refl))
 
 -- a value made of what a step read
-made_forward : {X Y : Type 0} (more : List ℕ) (make : X → Y) (x : X) (rest : List ℕ)
+pub made_forward : {X Y : Type 0} (more : List ℕ) (make : X → Y) (x : X) (rest : List ℕ)
     → Forward (length rest) more (let r : Read Y = Ok (make x, rest) in r) (Ok (make x, rest ++ more))
 made_forward more make x rest =
     gives (length rest) more (Ok (make x, rest)) (Ok (make x, rest ++ more)) (make x) rest refl refl (omega arith)
@@ -128,7 +133,8 @@ same_number width bytes more le =
 wide_forward : (width : ℕ) (more bytes : List ℕ) → IsForward more (wide_at width) bytes
 wide_forward width more bytes =
     elim (cases_lt (length bytes) width) [
-      | inl lt ↦ ends_early (length bytes) more (wide_at width bytes) (wide_at width (bytes ++ more)) (wide_short width bytes lt)
+      | inl lt ↦ ends_early (length bytes) more (wide_at width bytes) (wide_at width (bytes ++ more))
+      (wide_short width bytes lt)
       | inr le ↦
           let same : big_number width (bytes ++ more) ≡ big_number width bytes = same_number width bytes more le in
           let behind : drop width (bytes ++ more) ≡ drop width bytes ++ more = drop-append-le width bytes more le in
@@ -138,7 +144,7 @@ wide_forward width more bytes =
           (drop width bytes) (wide_long width bytes le) longer (omega (arith, length-drop width bytes))
     ]
 
-count_forward : (more bytes : List ℕ) → IsForward more count_at bytes
+pub count_forward : (more bytes : List ℕ) → IsForward more count_at bytes
 unfolding count_at
 count_forward = wide_forward 4
 
@@ -148,7 +154,7 @@ units_forward more bytes =
     then_forward more (wide_at 16) (λ bits. Ok (cast_signed w128 bits.0, bits.1)) bytes (wide_forward 16 more bytes)
     (λ bits rest. made_forward more (cast_signed w128) bits rest)
 
-number_forward : (more bytes : List ℕ) → IsForward more number_at bytes
+pub number_forward : (more bytes : List ℕ) → IsForward more number_at bytes
 unfolding number_at
 number_forward more bytes = keeping_forward more is_decimal units_at bytes (units_forward more bytes)
 
@@ -179,121 +185,32 @@ bytes_forward more bytes =
     then_forward more count_at (λ len. cut_at len.0 len.1) bytes (count_forward more bytes)
     (λ n rest. cut_forward n more rest)
 
-text_forward : (more bytes : List ℕ) → IsForward more text_at bytes
+pub text_forward : (more bytes : List ℕ) → IsForward more text_at bytes
 unfolding text_at
 text_forward more bytes = keeping_forward more is_utf8 bytes_at bytes (bytes_forward more bytes)
 
-uri_forward : (more bytes : List ℕ) → IsForward more uri_at bytes
+pub uri_forward : (more bytes : List ℕ) → IsForward more uri_at bytes
 unfolding uri_at
 uri_forward more bytes = keeping_forward more is_uri text_at bytes (text_forward more bytes)
 
 -- ---- lists
 
-list_forward : {X : Type 0} (more : List ℕ) (item_at : List X → List ℕ → Read X)
+pub list_forward : {X : Type 0} (more : List ℕ) (item_at : List X → List ℕ → Read X)
     → ((before : List X) (bytes : List ℕ) → IsForward more (item_at before) bytes)
     → (n : ℕ) (before : List X) (bytes : List ℕ) → IsForward more (list_at item_at before n) bytes
 unfolding list_at
 list_forward more item_at each zero before bytes = made_forward more (λ xs. xs) before bytes
 list_forward more item_at each (suc n) before bytes =
-    then_forward more (item_at before) (λ item. list_at item_at (before ++ item.0 ∷ []) n item.1) bytes (each before bytes)
+    then_forward more (item_at before) (λ item. list_at item_at (before ++ item.0 ∷ []) n item.1) bytes
+    (each before bytes)
     (λ item rest. list_forward more item_at each n (before ++ item ∷ []) rest)
 
-collections_forward : (more bytes : List ℕ) → IsForward more collections_at bytes
+pub collections_forward : (more bytes : List ℕ) → IsForward more collections_at bytes
 unfolding collections_at collection_at
 collections_forward more bytes =
     let item_at : List (List ℕ) → List ℕ → Read (List ℕ) = λ before. collection_at (last_of before) in
     then_forward more (keeping (λ n. nat_le n 64) count_at) (λ n. list_at item_at [] n.0 n.1) bytes
     (keeping_forward more (λ n. nat_le n 64) count_at bytes (count_forward more bytes))
     (λ n rest. list_forward more item_at
-      (λ before field. keeping_forward more (is_next (last_of before)) text_at field (text_forward more field)) n [] rest)
-
--- ---- nodes
-
-module _ (more : List ℕ) (value_at : List ℕ → Read Node)
-    (value_forward : (bytes : List ℕ) → IsForward more value_at bytes) where
-  items_forward : (bytes : List ℕ) → IsForward more (items_at value_at) bytes
-  unfolding items_at
-  items_forward bytes =
-      let made : List Node × List ℕ → Read Node = λ items. Ok (node.Items items.0, items.1) in
-      then_forward more count_at (λ n. list_at (λ before. value_at) [] n.0 n.1 >>= made) bytes (count_forward more bytes)
-      (λ n rest. then_forward more (list_at (λ before. value_at) [] n) made rest
-        (list_forward more (λ before. value_at) (λ before. value_forward) n [] rest)
-        (λ items behind. made_forward more node.Items items behind))
-
-  member_forward : (before : List (List ℕ × Node)) (bytes : List ℕ) → IsForward more (member_at value_at before) bytes
-  unfolding member_at name_at
-  member_forward before bytes =
-      let made : List ℕ × List ℕ → Node × List ℕ → Read (List ℕ × Node) = λ name value. Ok ((name.0, value.0), value.1) in
-      let fresh : List ℕ → Bool = λ name. not (is_among (names before) name) in
-      then_forward more (name_at (names before)) (λ name. value_at name.1 >>= made name) bytes
-      (keeping_forward more fresh text_at bytes (text_forward more bytes))
-      (λ name rest. then_forward more value_at (made (name, rest)) rest (value_forward rest)
-        (λ value behind. made_forward more (λ (v : Node). (name, v)) value behind))
-
-  members_forward : (bytes : List ℕ) → IsForward more (members_at value_at) bytes
-  unfolding members_at
-  members_forward bytes =
-      let made : List (List ℕ × Node) × List ℕ → Read Node = λ members. Ok (node.Members members.0, members.1) in
-      then_forward more count_at (λ n. list_at (member_at value_at) [] n.0 n.1 >>= made) bytes (count_forward more bytes)
-      (λ n rest. then_forward more (list_at (member_at value_at) [] n) made rest
-        (list_forward more (member_at value_at) member_forward n [] rest)
-        (λ members behind. made_forward more node.Members members behind))
-
--- a node of a kind, given what an array and an object give
-kind_forward : (array object long_array long_object : List ℕ → Read Node) (k : ℕ) (rest more : List ℕ)
-    → Forward (suc (length rest)) more (array rest) (long_array (rest ++ more))
-    → Forward (suc (length rest)) more (object rest) (long_object (rest ++ more))
-    → Forward (suc (length rest)) more (node_of array object (k ∷ rest)) (node_of long_array long_object (k ∷ (rest ++ more)))
-unfolding node_of kind_at
-kind_forward array object long_array long_object k rest more a o =
-    let len : ℕ = suc (length rest) in
-    let plain = λ (n : Node). wider (length rest) len more (let r : Read Node = Ok (n, rest) in r) (Ok (n, rest ++ more)) (omega arith) (made_forward more (λ (m : Node). m) n rest) in
-    let numbers : Forward len more (number_at rest >>= λ n. Ok (node.Num n.0, n.1)) (number_at (rest ++ more) >>= λ n. Ok (node.Num n.0, n.1)) =
-    wider (length rest) len more _ _ (omega arith)
-    (then_forward more number_at (λ n. Ok (node.Num n.0, n.1)) rest (number_forward more rest)
-      (λ n behind. made_forward more node.Num n behind)) in
-    let texts : Forward len more (text_at rest >>= λ t. Ok (node.Text t.0, t.1)) (text_at (rest ++ more) >>= λ t. Ok (node.Text t.0, t.1)) =
-    wider (length rest) len more _ _ (omega arith)
-    (then_forward more text_at (λ t. Ok (node.Text t.0, t.1)) rest (text_forward more rest)
-      (λ t behind. made_forward more node.Text t behind)) in
-    let unknown : Forward len more (let r : Read Node = Err (length (k ∷ rest)) in r) (Err (length (k ∷ (rest ++ more)))) =
-    refuses (k ∷ rest) more (Err (length (k ∷ rest))) (Err (length (k ∷ (rest ++ more)))) refl refl in
-    chosen_forward (k == 0) len more _ _ _ _ (plain node.Null)
-    (chosen_forward (k == 1) len more _ _ _ _ (plain (node.Bool false))
-      (chosen_forward (k == 2) len more _ _ _ _ (plain (node.Bool true))
-        (chosen_forward (k == 3) len more _ _ _ _ numbers
-          (chosen_forward (k == 4) len more _ _ _ _ texts
-            (chosen_forward (k == 5) len more _ _ _ _ a (chosen_forward (k == 6) len more _ _ _ _ o unknown))))))
-
-node_forward : (depth : ℕ) (more bytes : List ℕ) → IsForward more (node_at depth) bytes
-unfolding node_at node_of kind_at
-node_forward zero more [] = ends_early 0 more (Err 0) (node_at zero more) refl
-node_forward (suc depth) more [] = ends_early 0 more (Err 0) (node_at (suc depth) more) refl
-node_forward zero more (k ∷ rest) =
-    let out : List ℕ → List ℕ → Read Node = λ all r. Err (length all) in
-    let long : List ℕ = k ∷ (rest ++ more) in
-    let deep : Forward (suc (length rest)) more (out (k ∷ rest) rest) (out long (rest ++ more)) =
-    refuses (k ∷ rest) more (Err (length (k ∷ rest))) (Err (length long)) refl refl in
-    kind_forward (out (k ∷ rest)) (out (k ∷ rest)) (out long) (out long) k rest more deep deep
-node_forward (suc depth) more (k ∷ rest) =
-    let array : List ℕ → Read Node = items_at (node_at depth) in
-    let object : List ℕ → Read Node = members_at (node_at depth) in
-    let all = node_forward depth more in
-    kind_forward array object array object k rest more
-    (wider (length rest) (suc (length rest)) more (array rest) (array (rest ++ more)) (omega arith) (items_forward more (node_at depth) all rest))
-    (wider (length rest) (suc (length rest)) more (object rest) (object (rest ++ more)) (omega arith) (members_forward more (node_at depth) all rest))
-
--- ---- documents
-
-pub document_forward : (more bytes : List ℕ) → IsForward more document_at bytes
-unfolding document_at
-document_forward more bytes =
-    let made : List ℕ × List ℕ → List (List ℕ) × List ℕ → Node × List ℕ → Read PlainDocument =
-    λ uri collections root. Ok (record { uri = uri.0; collections = collections.0; root = root.0 }, root.1) in
-    then_forward more uri_at (λ uri. collections_at uri.1 >>= λ collections. node_at 128 collections.1 >>= made uri collections)
-    bytes (uri_forward more bytes)
-    (λ uri rest. then_forward more collections_at (λ collections. node_at 128 collections.1 >>= made (uri, rest) collections)
-      rest (collections_forward more rest)
-      (λ collections behind. then_forward more (node_at 128) (made (uri, rest) (collections, behind)) behind
-        (node_forward 128 more behind)
-        (λ root left. made_forward more (λ (r : Node). record { uri = uri; collections = collections; root = r }) root left)))
+      (λ before field. keeping_forward more (is_next (last_of before)) text_at field
+        (text_forward more field)) n [] rest)

@@ -12,4 +12,5 @@ pub mod CollectionsAgain
 pub mod NodesAgain
 pub mod Again
 pub mod Forward
+pub mod ForwardNodes
 pub mod Places

@@ -59,7 +59,8 @@ module _ {X : Type 0} (item_at : List X → List ℕ → Read X) where
 
   -- what holds of the values so far, and still with each one more, holds of all
   pub list_keeps : (P : List X → Type 0)
-      → ((before : List X) (bytes : List ℕ) (x : X × List ℕ) → P before → item_at before bytes ≡ Ok x → P (before ++ x.0 ∷ []))
+      → ((before : List X) (bytes : List ℕ) (x : X × List ℕ) → P before → item_at before bytes ≡ Ok x → P
+        (before ++ x.0 ∷ []))
       → (n : ℕ) (before : List X) (bytes : List ℕ) (x : List X × List ℕ) → P before
       → list_at item_at before n bytes ≡ Ok x → P x.0
   unfolding list_at
@@ -71,7 +72,8 @@ module _ {X : Type 0} (item_at : List X → List ℕ → Read X) where
 
 abbrev pub Listed : {X : Type 0} → (X → List ℕ) → (X → Bool) → ℕ → List X → List ℕ → List X × List ℕ → Type 0
 Listed {X = X} spelling fine n before bytes x =
-    (ys : List X) × (x.0 ≡ before ++ ys) × Takes bytes (flat_map spelling ys) x.1 × (length ys ≡ n) × (list_all fine ys ≡ true)
+    (ys : List X) × (x.0 ≡ before ++ ys) × Takes bytes (flat_map spelling ys) x.1 × (length ys ≡ n) ×
+    (list_all fine ys ≡ true)
 
 module _ {X : Type 0} (item_at : List X → List ℕ → Read X) (spelling : X → List ℕ) (fine : X → Bool)
     (each : (before : List X) (bytes : List ℕ) (x : X × List ℕ) → IsBytes bytes → item_at before bytes ≡ Ok x
@@ -102,7 +104,8 @@ Follows P before [] = Unit {0}
 Follows P before (y ∷ ys) = P before y × Follows P (before ++ y ∷ []) ys
 
 module _ {X : Type 0} (item_at : List X → List ℕ → Read X) (spelling : X → List ℕ) (P : List X → X → Type 0)
-    (each : (before : List X) (y : X) (rest : List ℕ) → P before y → item_at before (spelling y ++ rest) ≡ Ok (y, rest)) where
+    (each : (before : List X) (y : X) (rest : List ℕ) → P before y → item_at before (spelling y ++ rest) ≡ Ok
+      (y, rest)) where
   pub list_again : (ys before : List X) (rest : List ℕ) → Follows P before ys
       → list_at item_at before (length ys) (flat_map spelling ys ++ rest) ≡ Ok (before ++ ys, rest)
   unfolding list_at
@@ -110,7 +113,9 @@ module _ {X : Type 0} (item_at : List X → List ℕ → Read X) (spelling : X �
   list_again (y ∷ ys) before rest f =
       let behind : List ℕ = flat_map spelling ys ++ rest in
       let regrouped : flat_map spelling (y ∷ ys) ++ rest ≡ spelling y ++ behind =
-      ap (λ (t : List ℕ). t ++ rest) (flat_map-cons spelling y ys) ∙ append_assoc (spelling y) (flat_map spelling ys) rest in
+      ap (λ (t : List ℕ). t ++ rest) (flat_map-cons spelling y ys)
+      ∙ append_assoc (spelling y) (flat_map spelling ys) rest in
       ap (list_at item_at before (suc (length ys))) regrouped
       ∙ rw (each before y behind f.0)
-      (list_again ys (before ++ y ∷ []) rest f.1 ∙ ap (λ (xs : List X). Ok (xs, rest)) (append_assoc before (y ∷ []) ys))
+      (list_again ys (before ++ y ∷ []) rest f.1 ∙ ap (λ (xs : List X). Ok (xs, rest))
+        (append_assoc before (y ∷ []) ys))

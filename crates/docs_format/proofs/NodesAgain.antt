@@ -1,5 +1,6 @@
 -- A node that was written is read again.
-use Rattle.std.proofs.Common.{◌≡◌, ℕ, ℤ, zero, suc, ◌+◌, ◌-◌, ◌^◌, ◌<◌, ◌≤◌, Bool, true, false, ◌&&◌, ◌||◌, not, List, [], ◌∷◌}
+use Rattle.std.proofs.Common.{◌≡◌, ℕ, ℤ, zero, suc, ◌+◌, ◌-◌, ◌^◌, ◌<◌, ◌≤◌, Bool, true, false, ◌&&◌, ◌||◌, not}
+use Rattle.std.proofs.Common.{List, [], ◌∷◌}
 use Rattle.std.proofs.Common.{◌++◌, length, map, sum_by, Ok, refl, sym, ap, subst, ◌∙◌, append_assoc, arith}
 use Rattle.std.specs.List.{flat_map, list_all}
 use Rattle.std.specs.Str.{bytes_eq, is_utf8}
@@ -23,7 +24,8 @@ use Rattle.docs_format.proofs.Seen.{bytes_eq-sym}
 use Rattle.docs_format.proofs.Sizes.{depth_items, depth_members, names_items, names_members, size_items, size_members}
 use Rattle.docs_format.proofs.Sizes.{size_text}
 use Rattle.docs_format.proofs.Trees.{length-items, length-members, spell_null, spell_bool, spell_number, spell_text}
-use Rattle.docs_format.proofs.Trees.{spell_items, spell_members, values_items, values_members, values_number, values_text}
+use Rattle.docs_format.proofs.Trees.{spell_items, spell_members, values_items, values_members, values_number}
+use Rattle.docs_format.proofs.Trees.{values_text}
 
 pub record IsWritten (depths : ℕ) (n : Node) : Type 0 where
   pub values : spell.has_values n ≡ true
@@ -76,7 +78,8 @@ apart before x (m ∷ ms) n a =
 
 members_follow : (depths : ℕ) (list before : List (List ℕ × Node))
     → list_all (λ m. is_utf8 m.0 && spell.has_values m.1) list ≡ true → greatest (map (λ m. depth m.1) list) ≤ depths
-    → is_distinct (names list) ≡ true → none_among before list ≡ true → list_all (λ m. has_distinct_names m.1) list ≡ true
+    → is_distinct (names list) ≡ true → none_among before list ≡ true → list_all
+    (λ m. has_distinct_names m.1) list ≡ true
     → sum_by (λ m. length m.0 + size m.1) list < 2 ^ 32 → Follows (IsMember depths) before list
 unfolding none_among
 members_follow depths [] before v d q f n s = tt
@@ -100,14 +103,16 @@ none_first [] = refl
 none_first (m ∷ ms) = none_first ms
 
 module _ (depths : ℕ) (value_at : List ℕ → Read Node)
-    (value_again : (n : Node) (rest : List ℕ) → IsWritten depths n → value_at (spell.node n ++ rest) ≡ Ok (n, rest)) where
+    (value_again : (n : Node) (rest : List ℕ) → IsWritten depths n → value_at (spell.node n ++ rest) ≡ Ok
+      (n, rest)) where
   items_again : (list : List Node) (rest : List ℕ) → Follows (IsItem depths) [] list → length list < 2 ^ 32
       → items_at value_at (spell.items list ++ rest) ≡ Ok (node.Items list, rest)
   unfolding items_at
   items_again list rest f short =
       let counted : List ℕ = spell.count (length list) in
       let behind : List ℕ = flat_map spell.node list ++ rest in
-      let regrouped : spell.items list ++ rest ≡ counted ++ behind = append_assoc counted (flat_map spell.node list) rest in
+      let regrouped : spell.items list ++ rest ≡ counted ++ behind =
+      append_assoc counted (flat_map spell.node list) rest in
       let each = λ (before : List Node) (n : Node) (more : List ℕ) (w : IsWritten depths n). value_again n more w in
       ap (items_at value_at) regrouped
       ∙ rw (
@@ -134,7 +139,8 @@ module _ (depths : ℕ) (value_at : List ℕ → Read Node)
       let spelling : List ℕ × Node → List ℕ = λ m. spell.text m.0 ++ spell.node m.1 in
       let counted : List ℕ = spell.count (length list) in
       let behind : List ℕ = flat_map spelling list ++ rest in
-      let regrouped : spell.members list ++ rest ≡ counted ++ behind = append_assoc counted (flat_map spelling list) rest in
+      let regrouped : spell.members list ++ rest ≡ counted ++ behind =
+      append_assoc counted (flat_map spelling list) rest in
       ap (members_at value_at) regrouped
       ∙ rw (
         count_again (length list) behind short,
@@ -182,7 +188,8 @@ string_again depths t rest w =
     ∙ kind_text (4 ∷ behind) 4 behind (kind_first 4 behind) depths refl
     ∙ rw (text_again t rest short (sym (values_text t) ∙ w.values)) refl
 
-array_again : (depths : ℕ) → ((n : Node) → IsAgain depths n) → (list : List Node) → IsAgain (suc depths) (node.Items list)
+array_again : (depths : ℕ) → ((n : Node) → IsAgain depths n) → (list : List Node)
+    → IsAgain (suc depths) (node.Items list)
 array_again depths all list rest w =
     let behind : List ℕ = spell.items list ++ rest in
     let small : 1 + sum_by size list < 2 ^ 32 = rw size_items at w.size in
@@ -201,10 +208,12 @@ object_again depths all list rest w =
     let behind : List ℕ = spell.members list ++ rest in
     let small : 1 + sum_by (λ m. length m.0 + size m.1) list < 2 ^ 32 = rw size_members at w.size in
     let shallow : 1 + greatest (map (λ m. depth m.1) list) ≤ suc depths = rw depth_members at w.depth in
-    let values : list_all (λ m. is_utf8 m.0 && spell.has_values m.1) list ≡ true = sym (values_members list) ∙ w.values in
+    let values : list_all (λ m. is_utf8 m.0 && spell.has_values m.1) list ≡ true =
+    sym (values_members list) ∙ w.values in
     let q = and_parts (is_distinct (names list)) (list_all (λ m. has_distinct_names m.1) list)
     (sym (names_members list) ∙ w.names) in
-    let f = members_follow depths list [] values (omega (arith, shallow)) q.0 (none_first list) q.1 (omega (arith, small)) in
+    let f =
+    members_follow depths list [] values (omega (arith, shallow)) q.0 (none_first list) q.1 (omega (arith, small)) in
     let one : suc depths - 1 ≡ depths = omega arith in
     spelled_so (suc depths) (node.Members list) (6 ∷ spell.members list) (spell_members list) rest
     ∙ kind_members (6 ∷ behind) 6 behind (kind_first 6 behind) (suc depths) refl (omega arith)
@@ -221,9 +230,11 @@ rolled_again : (depths : ℕ) (n : Node) → Opened n
     → ((m : Node) → (list : List (List ℕ × Node)) → m ≡ node.Members list → IsAgain depths m)
     → IsAgain depths n
 rolled_again depths n (Node-F.Null, is) a o = subst (IsAgain depths) (sym node.rolls-Null ∙ is) (null_again depths)
-rolled_again depths n (Node-F.Bool b, is) a o = subst (IsAgain depths) (sym (node.rolls-Bool b) ∙ is) (bool_again depths b)
+rolled_again depths n (Node-F.Bool b, is) a o =
+    subst (IsAgain depths) (sym (node.rolls-Bool b) ∙ is) (bool_again depths b)
 rolled_again depths n (Node-F.Num u, is) a o = subst (IsAgain depths) (sym (node.rolls-Num u) ∙ is) (num_again depths u)
-rolled_again depths n (Node-F.Text t, is) a o = subst (IsAgain depths) (sym (node.rolls-Text t) ∙ is) (string_again depths t)
+rolled_again depths n (Node-F.Text t, is) a o =
+    subst (IsAgain depths) (sym (node.rolls-Text t) ∙ is) (string_again depths t)
 rolled_again depths n (Node-F.Items list, is) a o = a n list (sym is ∙ node.rolls-Items list)
 rolled_again depths n (Node-F.Members list, is) a o = o n list (sym is ∙ node.rolls-Members list)
 

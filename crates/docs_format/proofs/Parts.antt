@@ -24,7 +24,8 @@ pub items_are : (value_at : List ℕ → Read Node) (bytes : List ℕ) (n : ℕ)
 unfolding items_at
 items_are value_at bytes n rest e = rw e refl
 
-pub members_are : (value_at : List ℕ → Read Node) (bytes : List ℕ) (n : ℕ) (rest : List ℕ) → count_at bytes ≡ Ok (n, rest)
+pub members_are : (value_at : List ℕ → Read Node) (bytes : List ℕ) (n : ℕ) (rest : List ℕ)
+    → count_at bytes ≡ Ok (n, rest)
     → members_at value_at bytes
     ≡ (list_at (member_at value_at) [] n rest >>= λ members. Ok (node.Members members.0, members.1))
 unfolding members_at
@@ -35,7 +36,8 @@ pub stops_then : {X Y : Type 0} (why : Stop) (first : Result X ℕ) (f : X → R
 stops_then stop.Memory first f h = tt
 stops_then (stop.Left left) first f h = rw h refl
 
-pub stops_same : {X : Type 0} (why : Stop) (first second : Result X ℕ) → second ≡ first → Stops why first → Stops why second
+pub stops_same : {X : Type 0} (why : Stop) (first second : Result X ℕ) → second ≡ first → Stops why first
+    → Stops why second
 stops_same stop.Memory first second e h = tt
 stops_same (stop.Left left) first second e h = e ∙ h
 
@@ -71,7 +73,8 @@ module _ (bytes : List ℕ) (k : ℕ) (rest : List ℕ) (e : kind_at bytes ≡ O
   kind_true zero is = rw (e, is) refl
   kind_true (suc depth) is = rw (e, is) refl
 
-  pub kind_number : (depth : ℕ) → k ≡ 3 → node_at depth bytes ≡ (number_at rest >>= λ units. Ok (node.Num units.0, units.1))
+  pub kind_number : (depth : ℕ) → k ≡ 3
+      → node_at depth bytes ≡ (number_at rest >>= λ units. Ok (node.Num units.0, units.1))
   unfolding node_at node_of
   kind_number zero is = rw (e, is) refl
   kind_number (suc depth) is = rw (e, is) refl

@@ -1,5 +1,6 @@
 -- Where a fault is, and that it stays there.
-use Rattle.std.proofs.Common.{◌≡◌, ℕ, ◌+◌, ◌-◌, ◌^◌, ◌<◌, ◌≤◌, Bool, true, false, cond, not, nat_lt, ◌==◌, List, [], ◌∷◌, ◌++◌}
+use Rattle.std.proofs.Common.{◌≡◌, ℕ, ◌+◌, ◌-◌, ◌^◌, ◌<◌, ◌≤◌, Bool, true, false, cond, not, nat_lt, ◌==◌, List, []}
+use Rattle.std.proofs.Common.{◌∷◌, ◌++◌}
 use Rattle.std.proofs.Common.{length, Result, Ok, Err, ◌⊎◌, inl, inr, refl, sym, ap, subst, ◌∙◌, arith}
 use Rattle.std.specs.Prelude.{IfErr}
 use Rattle.std.proofs.lemmas.Bool.{cases_Bool, eqb-false, ne_eqb, not-true}
@@ -13,11 +14,13 @@ use Rattle.docs_format.specs.declared.fault.DocBytesBad.{DocBytesBad}
 use Rattle.docs_format.specs.declared.fault.DocBytesBad.TheVariants as bad
 use Rattle.docs_format.proofs.Again.{spelled_again}
 use Rattle.docs_format.proofs.Fields.{ok_is}
-use Rattle.docs_format.proofs.Forward.{Forward, Stays, Within, document_forward}
+use Rattle.docs_format.proofs.Forward.{Forward, Stays, Within}
+use Rattle.docs_format.proofs.ForwardNodes.{document_forward}
 
 -- a document with nothing behind it that isn't too large, of so many bytes
 judged : ℕ → PlainDocument × List ℕ → Result PlainDocument ℕ
-judged len d = cond (not (length d.1 == 0)) (Err (length d.1)) (cond (nat_lt (2 ^ 24) (document_size d.0)) (Err len) (Ok d.0))
+judged len d =
+    cond (not (length d.1 == 0)) (Err (length d.1)) (cond (nat_lt (2 ^ 24) (document_size d.0)) (Err len) (Ok d.0))
 
 whole_is : (bytes : List ℕ) → whole_of bytes ≡ (document_at bytes >>= judged (length bytes))
 unfolding whole_of judged
@@ -25,7 +28,8 @@ whole_is bytes = refl
 
 -- ---- the bytes left from a fault on
 
-judged_within : (len : ℕ) (d : PlainDocument × List ℕ) (left : ℕ) → length d.1 ≤ len → judged len d ≡ Err left → left ≤ len
+judged_within : (len : ℕ) (d : PlainDocument × List ℕ) (left : ℕ) → length d.1 ≤ len → judged len d ≡ Err left
+    → left ≤ len
 unfolding judged
 judged_within len d left le e = go (not (length d.1 == 0)) (nat_lt (2 ^ 24) (document_size d.0)) e
   where
@@ -34,7 +38,8 @@ judged_within len d left le e = go (not (length d.1 == 0)) (nat_lt (2 ^ 24) (doc
     go false true f = let same : len ≡ left = cc in omega (arith, same)
     go false false f = absurd cc
 
-read_within : (len : ℕ) (read : Read PlainDocument) (left : ℕ) → Within len read → (read >>= judged len) ≡ Err left → left ≤ len
+read_within : (len : ℕ) (read : Read PlainDocument) (left : ℕ) → Within len read → (read >>= judged len) ≡ Err left
+    → left ≤ len
 read_within len (Ok d) left w e = judged_within len d left w e
 read_within len (Err l) left w e = let same : l ≡ left = cc in omega (arith, same, w)
 
@@ -44,7 +49,8 @@ left_within bytes left e =
 
 -- ---- the place
 
-pub is_placed : (bytes : List ℕ) (r : Result PlainDocument DocBytesBad) → Answers r (document_of bytes) → IfErr r (IsPlaced (length bytes))
+pub is_placed : (bytes : List ℕ) (r : Result PlainDocument DocBytesBad) → Answers r (document_of bytes)
+    → IfErr r (IsPlaced (length bytes))
 is_placed bytes (Ok d) a = tt
 is_placed bytes (Err bad.Memory) a = tt
 is_placed bytes (Err (bad.Bad place)) a = go (whole_of bytes) a
@@ -92,7 +98,8 @@ beginnings_end_early bytes more d s some =
     let place : length bytes - 0 ≡ length bytes = omega arith in
     at_place bytes 0 whole ∙ ap Err place
   where
-    go : (read : Read PlainDocument) → Stays more read (document_at (bytes ++ more)) → document_at (bytes ++ more) ≡ Ok (d, [])
+    go : (read : Read PlainDocument) → Stays more read (document_at (bytes ++ more))
+        → document_at (bytes ++ more) ≡ Ok (d, [])
         → (read >>= judged (length bytes)) ≡ Err 0
     go (Ok x) stays longer =
         let both : length (x.1 ++ more) ≡ 0 =
@@ -117,11 +124,13 @@ alone_at_0 : (len place : ℕ) (d : PlainDocument) (large : Bool)
 alone_at_0 len place d true e = let same : len - len ≡ place = err_is (len - len) place e in omega (arith, same)
 alone_at_0 len place d false e = absurd cc
 
-stays_behind : (bytes more : List ℕ) (place : ℕ) (x : PlainDocument × List ℕ) → document_of bytes ≡ Err place → 0 < place
+stays_behind : (bytes more : List ℕ) (place : ℕ) (x : PlainDocument × List ℕ) → document_of bytes ≡ Err place
+    → 0 < place
     → document_at bytes ≡ Ok x → document_at (bytes ++ more) ≡ Ok (x.0, x.1 ++ more) → length x.1 ≤ length bytes
     → document_of (bytes ++ more) ≡ Err place
 stays_behind bytes more place x e low short longer le =
-    let read : whole_of bytes ≡ judged (length bytes) x = whole_is bytes ∙ ap (λ r. r >>= judged (length bytes)) short in
+    let read : whole_of bytes ≡ judged (length bytes) x =
+    whole_is bytes ∙ ap (λ r. r >>= judged (length bytes)) short in
     elim (cases_Bool (not (length x.1 == 0))) [
       | inl full ↦
           let all : List ℕ = bytes ++ more in
@@ -134,7 +143,8 @@ stays_behind bytes more place x e low short longer le =
           moved bytes more place (length x.1) e le (read ∙ judged_rest (length bytes) x full) later
       | inr none ↦
           let large : Bool = nat_lt (2 ^ 24) (document_size x.0) in
-          let is : whole_of bytes ≡ cond large (Err (length bytes)) (Ok x.0) = read ∙ judged_alone (length bytes) x none in
+          let is : whole_of bytes ≡ cond large (Err (length bytes)) (Ok x.0) =
+          read ∙ judged_alone (length bytes) x none in
           let zero_place : place ≡ 0 =
           alone_at_0 (length bytes) place x.0 large (sym (ap (placed (length bytes)) is) ∙ e) in
           absurd (omega (arith, low, zero_place))

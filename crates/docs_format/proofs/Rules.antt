@@ -17,8 +17,10 @@ use Rattle.doc_model.specs.declared.node.Node.TheOpen.{Node-F}
 use Rattle.doc_model.specs.declared.node.Node.TheVariants as node
 use Rattle.doc_model.specs.declared.refusal.DocRefusal.{DocRefusal}
 use Rattle.doc_model.specs.declared.refusal.DocRefusal.TheVariants as rule
-use Rattle.docs_format.specs.Reading.{◌>>=◌, Read, collection_at, collections_at, count_at, document_at, is_next, items_at}
-use Rattle.docs_format.specs.Reading.{keeping, last_of, list_at, member_at, members_at, name_at, names, node_at, text_at}
+use Rattle.docs_format.specs.Reading.{◌>>=◌, Read, collection_at, collections_at, count_at, document_at, is_next}
+use Rattle.docs_format.specs.Reading.{items_at}
+use Rattle.docs_format.specs.Reading.{keeping, last_of, list_at, member_at, members_at, name_at, names, node_at}
+use Rattle.docs_format.specs.Reading.{text_at}
 use Rattle.docs_format.specs.Reading.{kind_at, node_of, uri_at}
 use Rattle.docs_format.proofs.Fields.{bind_ok, kept_ok, ok_is}
 use Rattle.docs_format.proofs.Lists.{list_counts, list_keeps}
@@ -127,7 +129,8 @@ module _ (depths : ℕ) (value_at : List ℕ → Read Node)
       → AreMembers depths before → member_at value_at before bytes ≡ Ok x → AreMembers depths (before ++ x.0 ∷ [])
   unfolding member_at name_at
   member_kept before bytes x k e =
-      let made : List ℕ × List ℕ → Node × List ℕ → (List ℕ × Node) × List ℕ = λ name value. ((name.0, value.0), value.1) in
+      let made : List ℕ × List ℕ → Node × List ℕ → (List ℕ × Node) × List ℕ =
+      λ name value. ((name.0, value.0), value.1) in
       let fresh_name : List ℕ → Bool = λ name. not (is_among (names before) name) in
       let a = bind_ok (name_at (names before) bytes) (λ name. value_at name.1 >>= λ value. Ok (made name value)) x e in
       let b = bind_ok (value_at a.0.1) (λ value. Ok (made a.0 value)) x a.2 in

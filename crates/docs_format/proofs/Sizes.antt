@@ -9,7 +9,8 @@ use Rattle.doc_model.specs.declared.node.Node.TheVariants as node
 use Rattle.doc_model.specs.declared.node.Node.TheOpen.{Node-F}
 use Rattle.doc_model.specs.declared.node.Node.TheFolds.{fold-roll-Node}
 use Rattle.doc_model.specs.declared.node.Node.TheViews.{roll-Node}
-use Rattle.doc_model.specs.Tree.{size, size_step, depth, depth_step, greatest, has_distinct_names, names_step, is_distinct}
+use Rattle.doc_model.specs.Tree.{size, size_step, depth, depth_step, greatest, has_distinct_names, names_step}
+use Rattle.doc_model.specs.Tree.{is_distinct}
 use Rattle.docs_format.specs.Reading.{names}
 
 sum-map : {X : Type 0} (f : X → ℕ) (xs : List X) → sum (map f xs) ≡ sum_by f xs

@@ -1,5 +1,6 @@
 -- What is read is spelled so.
-use Rattle.std.proofs.Common.{◌≡◌, ℕ, ℤ, zero, suc, ◌^◌, Bool, true, false, cond, ◌&&◌, not, eqb, nat_lt, List, [], ◌∷◌, ◌++◌}
+use Rattle.std.proofs.Common.{◌≡◌, ℕ, ℤ, zero, suc, ◌^◌, Bool, true, false, cond, ◌&&◌, not, eqb, nat_lt, List, []}
+use Rattle.std.proofs.Common.{◌∷◌, ◌++◌}
 use Rattle.std.proofs.Common.{length, Result, Ok, Err, is_none, refl, sym, ap, subst, ◌∙◌, rules, nat_le}
 use Rattle.std.specs.Prelude.{IfOk, IsTrue}
 use Rattle.std.specs.List.{flat_map, list_all}
@@ -12,8 +13,10 @@ use Rattle.doc_model.specs.declared.node.Node.TheVariants as node
 use Rattle.docs_format.specs.declared.fault.DocBytesBad.{DocBytesBad}
 use Rattle.docs_format.specs.Answers.{Answers}
 use Rattle.docs_format.specs.Spelling as spell
-use Rattle.docs_format.specs.Reading.{◌>>=◌, Read, collection_at, collections_at, count_at, document_at, document_of, is_next}
-use Rattle.docs_format.specs.Reading.{items_at, keeping, last_of, list_at, member_at, members_at, name_at, names, node_at}
+use Rattle.docs_format.specs.Reading.{◌>>=◌, Read, collection_at, collections_at, count_at, document_at}
+use Rattle.docs_format.specs.Reading.{document_of, is_next}
+use Rattle.docs_format.specs.Reading.{items_at, keeping, last_of, list_at, member_at, members_at, name_at, names}
+use Rattle.docs_format.specs.Reading.{node_at}
 use Rattle.docs_format.specs.Reading.{kind_at, node_of, number_at, placed, text_at, uri_at, whole_of}
 use Rattle.docs_format.proofs.Digits.{IsBytes}
 use Rattle.docs_format.proofs.Fields.{bind_ok, guard_ok, kept_ok, ok_is, Takes, Takes-then, count_takes, number_takes}
@@ -29,7 +32,8 @@ use Rattle.docs_format.proofs.Trees.{values_null, values_bool, values_number, va
 collection_takes : (before : List (List ℕ)) (bytes : List ℕ) (x : List ℕ × List ℕ) → IsBytes bytes
     → collection_at (last_of before) bytes ≡ Ok x → Takes bytes (spell.text x.0) x.1 × (is_utf8 x.0 ≡ true)
 unfolding collection_at
-collection_takes before bytes x fits e = text_takes bytes x fits (kept_ok (is_next (last_of before)) text_at bytes x e).0
+collection_takes before bytes x fits e =
+    text_takes bytes x fits (kept_ok (is_next (last_of before)) text_at bytes x e).0
 
 pub collections_take : (bytes : List ℕ) (x : List (List ℕ) × List ℕ) → IsBytes bytes
     → collections_at bytes ≡ Ok x → Takes bytes (spell.texts x.0) x.1 × (list_all is_utf8 x.0 ≡ true)
@@ -82,14 +86,16 @@ module _ (value_at : List ℕ → Read Node)
       let values : list_all spell.has_values b.0.0 ≡ true =
       subst (λ (ys : List Node). list_all spell.has_values ys ≡ true) (sym l.1) l.4 in
       subst (λ (y : Node × List ℕ). IsRead bytes 5 y) (ok_is (node.Items b.0.0, b.0.1) x b.2)
-      (is_read bytes 5 (node.Items b.0.0) (spell.items b.0.0) b.0.1 (spell_items b.0.0) parts (values_items b.0.0 ∙ values))
+      (is_read bytes 5 (node.Items b.0.0) (spell.items b.0.0) b.0.1 (spell_items b.0.0) parts
+        (values_items b.0.0 ∙ values))
 
   member_takes : (before : List (List ℕ × Node)) (bytes : List ℕ) (x : (List ℕ × Node) × List ℕ) → IsBytes bytes
       → member_at value_at before bytes ≡ Ok x
       → Takes bytes (spell.text x.0.0 ++ spell.node x.0.1) x.1 × ((is_utf8 x.0.0 && spell.has_values x.0.1) ≡ true)
   unfolding member_at name_at
   member_takes before bytes x fits e =
-      let made : List ℕ × List ℕ → Node × List ℕ → (List ℕ × Node) × List ℕ = λ name value. ((name.0, value.0), value.1) in
+      let made : List ℕ × List ℕ → Node × List ℕ → (List ℕ × Node) × List ℕ =
+      λ name value. ((name.0, value.0), value.1) in
       let a = bind_ok (name_at (names before) bytes) (λ name. value_at name.1 >>= λ value. Ok (made name value)) x e in
       let b = bind_ok (value_at a.0.1) (λ value. Ok (made a.0 value)) x a.2 in
       let n = text_takes bytes a.0 fits (kept_ok _ text_at bytes a.0 a.1).0 in
@@ -99,7 +105,8 @@ module _ (value_at : List ℕ → Read Node)
       let both : Takes bytes (spell.text a.0.0 ++ spell.node b.0.0) b.0.1 =
       Takes-then bytes (spell.text a.0.0) a.0.1 (spell.node b.0.0) b.0.1 n.0 v.0 in
       let P : (List ℕ × Node) × List ℕ → Type 0 =
-      λ y. Takes bytes (spell.text y.0.0 ++ spell.node y.0.1) y.1 × ((is_utf8 y.0.0 && spell.has_values y.0.1) ≡ true) in
+      λ y. Takes bytes (spell.text y.0.0 ++ spell.node y.0.1) y.1 ×
+      ((is_utf8 y.0.0 && spell.has_values y.0.1) ≡ true) in
       subst P (ok_is (made a.0 b.0) x b.2) (both, values)
 
   members_take : (bytes : List ℕ) (x : Node × List ℕ) → IsBytes bytes
@@ -233,7 +240,8 @@ whole_takes bytes d fits e =
     let t = document_takes bytes a.0 fits a.1 in
     let k = document_kept bytes a.0 a.1 in
     let whole : is_none (broken_rule a.0.0) ≡ true = rw (only_size a.0.0 k, c.0) refl in
-    let nothing : a.0.1 ≡ [] = nil_from_length a.0.1 (eqb-true (length a.0.1) 0 (not-false (eqb (length a.0.1) 0) b.0)) in
+    let nothing : a.0.1 ≡ [] =
+    nil_from_length a.0.1 (eqb-true (length a.0.1) 0 (not-false (eqb (length a.0.1) 0) b.0)) in
     let spelled : bytes ≡ spell.document a.0.0 =
     t.0.parts ∙ ap (λ (rest : List ℕ). spell.document a.0.0 ++ rest) nothing ∙ append-nil (spell.document a.0.0) in
     subst (λ (y : PlainDocument). spell.Spells bytes y) c.1 record {

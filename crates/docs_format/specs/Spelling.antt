@@ -1,5 +1,6 @@
 -- The bytes of a document.
-use Rattle.std.specs.Prelude.{◌≡◌, ℕ, ℤ, pos, negsuc, Bool, true, ◌&&◌, int_lt, ◌-◌, ◌^◌, List, [], ◌∷◌, ◌++◌, length, IsTrue, if◌then◌else◌}
+use Rattle.std.specs.Prelude.{◌≡◌, ℕ, ℤ, pos, negsuc, Bool, true, ◌&&◌, int_lt, ◌-◌, ◌^◌, List, [], ◌∷◌, ◌++◌}
+use Rattle.std.specs.Prelude.{length, IsTrue, if◌then◌else◌}
 use Rattle.std.specs.Int.{w128, cast_unsigned}
 use Rattle.std.specs.List.{flat_map, list_all}
 use Rattle.std.specs.Str.{is_utf8}
@@ -28,7 +29,8 @@ node_step (Node-F.Bool b) = (if b then 2 else 1) ∷ []
 node_step (Node-F.Num units) = 3 ∷ number units
 node_step (Node-F.Text t) = 4 ∷ text t
 node_step (Node-F.Items items) = 5 ∷ count (length items) ++ flat_map (λ item. item) items
-node_step (Node-F.Members members) = 6 ∷ count (length members) ++ flat_map (λ member. text member.0 ++ member.1) members
+node_step (Node-F.Members members) =
+    6 ∷ count (length members) ++ flat_map (λ member. text member.0 ++ member.1) members
 
 abbrev pub node : Node → List ℕ
 node = fold-Node (List ℕ) node_step

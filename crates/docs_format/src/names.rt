@@ -14,8 +14,10 @@ pub fn name_at<'a>(
     seen: &mut BTreeMap<&'a str, ()>,
     reader: &mut Reader<'a>,
 ) -> Result<&'a str, Stop>
-    ensures name { (before : List (List ℕ)) → HasNames seen.old before → Gives (λ x. (x.now, reader.new)) result (name_at before reader.old) }
-    ensures noted { (before : List (List ℕ)) → HasNames seen.old before → IfOk result (λ x. HasNames seen.new (before ++ x.now ∷ [])) }
+    ensures name { (before : List (List ℕ)) → HasNames seen.old before
+        → Gives (λ x. (x.now, reader.new)) result (name_at before reader.old) }
+    ensures noted { (before : List (List ℕ)) → HasNames seen.old before
+        → IfOk result (λ x. HasNames seen.new (before ++ x.now ∷ [])) }
 {
     let left = reader.left();
     let name = reader.text()?;
@@ -28,8 +30,10 @@ pub fn name_at<'a>(
 
 /// Whether a name wasn't noted before. It is from now on.
 fn is_fresh<'a>(seen: &mut BTreeMap<&'a str, ()>, name: &'a str) -> Result<bool, AllocError>
-    ensures fresh { (before : List (List ℕ)) → HasNames seen.old before → IfOk result (λ fresh. fresh ≡ not (is_among before name.now)) }
-    ensures noted { (before : List (List ℕ)) → HasNames seen.old before → OnOk result (HasNames seen.new (before ++ name.now ∷ [])) }
+    ensures fresh { (before : List (List ℕ)) → HasNames seen.old before
+        → IfOk result (λ fresh. fresh ≡ not (is_among before name.now)) }
+    ensures noted { (before : List (List ℕ)) → HasNames seen.old before
+        → OnOk result (HasNames seen.new (before ++ name.now ∷ [])) }
 {
     Ok(seen.insert(name, ())?.is_none())
 }

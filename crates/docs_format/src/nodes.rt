@@ -74,8 +74,10 @@ fn member_at<'a>(
     seen: &mut BTreeMap<&'a str, ()>,
     reader: &mut Reader<'a>,
 ) -> Result<(Text, Node), Stop>
-    ensures member { (before : List (List ℕ × Node)) → HasNames seen.old (names before) → Gives (λ x. (x, reader.new)) result (member_at (node_at depth) before reader.old) }
-    ensures noted { (before : List (List ℕ × Node)) → HasNames seen.old (names before) → IfOk result (λ x. HasNames seen.new (names (before ++ x ∷ []))) }
+    ensures member { (before : List (List ℕ × Node)) → HasNames seen.old (names before)
+        → Gives (λ x. (x, reader.new)) result (member_at (node_at depth) before reader.old) }
+    ensures noted { (before : List (List ℕ × Node)) → HasNames seen.old (names before)
+        → IfOk result (λ x. HasNames seen.new (names (before ++ x ∷ []))) }
 {
     let name = name_at(seen, reader)?;
     let value = node_at(alloc, depth, reader)?;

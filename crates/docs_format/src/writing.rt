@@ -2,7 +2,8 @@ ghost use Rattle.std.specs.Prelude.{◌≡◌, ◌<◌, ◌^◌, [], ◌∷◌, 
 ghost use Rattle.std.specs.List.{list_all, flat_map};
 ghost use Rattle.std.specs.Str.{is_utf8};
 ghost use Rattle.doc_model.specs.Tree.{size};
-ghost use Rattle.docs_format.specs.Spelling.{Spells, count, has_values, is_decimal, items, members, node, number, text, texts};
+ghost use Rattle.docs_format.specs.Spelling.{Spells, count, has_values, is_decimal, items, members, node, number, text};
+ghost use Rattle.docs_format.specs.Spelling.{texts};
 
 use byteorder::{BigEndian, ByteOrder};
 use doc_model::{Dec, Document, Members, Node, Nodes, Text};
@@ -78,8 +79,7 @@ fn put_node(out: &mut Vec<u8>, value: &Node) -> Result<(), AllocError>
 {
     match value {
         Node::Null => put_kind(out, 0),
-        Node::Bool(false) => put_kind(out, 1),
-        Node::Bool(true) => put_kind(out, 2),
+        Node::Bool(truth) => put_kind(out, if *truth { 2 } else { 1 }),
         Node::Num(amount) => {
             put_kind(out, 3)?;
             put_number(out, amount)

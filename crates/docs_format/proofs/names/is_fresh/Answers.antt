@@ -4,7 +4,10 @@ use Rattle.docs_format.proofs.Seen.{not_so, one_more}
 use Rattle.docs_format.proofs.names.is_fresh.Goals as goal
 
 pub returns-clause-fresh : goal.returns-clause-fresh
-returns-clause-fresh c = λ before had. not_so c.is_none.result (is_some c.in_ok-insert.field-0) (is_among before c.args.name.now) c.is_none.ensures (ap is_some c.in_ok-insert.ensures.old ∙ had c.args.name.now)
+returns-clause-fresh c =
+    λ before had. not_so c.is_none.result (is_some c.in_ok-insert.field-0)
+    (is_among before c.args.name.now) c.is_none.ensures (ap is_some c.in_ok-insert.ensures.old ∙ had c.args.name.now)
 
 pub returns-clause-noted : goal.returns-clause-noted
-returns-clause-noted c = λ before had. one_more c.args.seen.now c.insert.new.self before c.args.name.now c.in_ok-insert.ensures.updates had
+returns-clause-noted c =
+    λ before had. one_more c.args.seen.now c.insert.new.self before c.args.name.now c.in_ok-insert.ensures.updates had

@@ -2,7 +2,12 @@ use Rattle.docs_format.proofs.Keeping.{text_kept, text_unkept}
 use Rattle.docs_format.proofs.reader.Reader.text.Goals as goal
 
 pub returns-in-Ok : goal.returns-in-Ok
-returns-in-Ok c = rw c.in-Ok.ensures.cases.0 (text_kept c.args.self.now c.in_ok-bytes.field-0.now c.bytes.new.self c.in_ok-bytes.ensures c.in-Ok.ensures.cases.1)
+returns-in-Ok c =
+    rw c.in-Ok.ensures.cases.0
+    (text_kept c.args.self.now c.in_ok-bytes.field-0.now c.bytes.new.self c.in_ok-bytes.ensures c.in-Ok.ensures.cases.1)
 
 pub returns-in-Err : goal.returns-in-Err
-returns-in-Err c = rw c.left-left.ensures (text_unkept c.args.self.now c.in_ok-bytes.field-0.now c.bytes.new.self c.in_ok-bytes.ensures c.in-Err.ensures.cases.0)
+returns-in-Err c =
+    rw c.left-left.ensures
+    (text_unkept c.args.self.now c.in_ok-bytes.field-0.now c.bytes.new.self c.in_ok-bytes.ensures
+      c.in-Err.ensures.cases.0)
