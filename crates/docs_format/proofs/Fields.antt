@@ -64,9 +64,14 @@ wide_takes width bytes x fits e =
     let front : big_bytes width (big_number width bytes) ≡ take width bytes =
     ap (big_bytes width) (sym (big_from-take 0 width width bytes (omega arith)))
     ∙ digits_back width (take width bytes) (length-take-le width bytes long) (IsBytes-take width bytes fits) in
-    subst (λ (y : ℕ × List ℕ). Takes bytes (big_bytes width y.0) y.1 × (y.0 < 256 ^ width)) g.1
-    (record { parts = sym (take-append-drop width bytes) ∙ ap (λ (t : List ℕ). t ++ drop width bytes)
-      (sym front); rest_fits = IsBytes-drop width bytes fits }, big_from-lt 0 width bytes fits)
+    subst (λ (y : ℕ × List ℕ). Takes bytes (big_bytes width y.0) y.1 × (y.0 < 256 ^ width)) g.1 (
+      record {
+        parts = sym (take-append-drop width bytes) ∙ ap (λ (t : List ℕ). t ++ drop width bytes)
+            (sym front);
+        rest_fits = IsBytes-drop width bytes fits;
+      },
+      big_from-lt 0 width bytes fits,
+    )
 
 pub wide_again : (width n : ℕ) (rest : List ℕ) → n < 256 ^ width
     → wide_at width (big_bytes width n ++ rest) ≡ Ok (n, rest)
@@ -149,9 +154,11 @@ number_takes bytes x fits e =
     let a = bind_ok (wide_at 16 bytes) (λ bits. Ok (cast_signed w128 bits.0, bits.1)) x k.0 in
     let t = wide_takes 16 bytes a.0 fits a.1 in
     let same : cast_unsigned w128 (cast_signed w128 a.0.0) ≡ a.0.0 = of_z-to_z w128 a.0.0 t.1 in
-    let made : ℤ × List ℕ = (cast_signed w128 a.0.0, a.0.1) in
-    (subst (λ (y : ℤ × List ℕ). Takes bytes (big_bytes 16 (cast_unsigned w128 y.0)) y.1) (ok_is made x a.2)
-      (subst (λ (n : ℕ). Takes bytes (big_bytes 16 n) a.0.1) (sym same) t.0), k.1)
+    let made : ℤ × List ℕ = (cast_signed w128 a.0.0, a.0.1) in (
+      subst (λ (y : ℤ × List ℕ). Takes bytes (big_bytes 16 (cast_unsigned w128 y.0)) y.1) (ok_is made x a.2)
+          (subst (λ (n : ℕ). Takes bytes (big_bytes 16 n) a.0.1) (sym same) t.0),
+      k.1,
+    )
 
 unsigned_fits : (units : ℤ) → is_decimal units ≡ true
     → (cast_unsigned w128 units < 256 ^ 16) × (cast_signed w128 (cast_unsigned w128 units) ≡ units)

@@ -1,6 +1,6 @@
 -- Reading goes forward: no fault is before the bytes, and more bytes behind them change nothing but an early end.
-use Rattle.std.proofs.Common.{◌≡◌, ℕ, ℤ, zero, suc, ◌+◌, ◌<◌, ◌≤◌, Bool, true, false, cond, not, nat_le, nat_lt, ◌==◌}
-use Rattle.std.proofs.Common.{List, [], ◌∷◌, ◌++◌, length, take, drop, Result, Ok, Err, ◌⊎◌, inl, inr, refl, sym}
+use Rattle.std.proofs.Common.{◌≡◌, ℕ, zero, suc, ◌+◌, ◌<◌, ◌≤◌, Bool, true, false, cond, nat_le, nat_lt}
+use Rattle.std.proofs.Common.{List, [], ◌∷◌, ◌++◌, length, take, drop, Ok, Err, ◌⊎◌, inl, inr, refl, sym}
 use Rattle.std.proofs.Common.{ap, subst}
 use Rattle.std.proofs.Common.{◌∙◌, arith}
 use Rattle.std.specs.Int.{w128, cast_signed}
@@ -9,17 +9,12 @@ use Rattle.std.proofs.lemmas.Bool.{cases_lt, le-ltb, lt-ltb}
 use Rattle.std.proofs.lemmas.List.{drop-append-le, length-append, length-drop, take-append-le}
 use Rattle.byteorder.specs.Endian.{big_number}
 use Rattle.byteorder.specs.Numbers.{big_from-take}
-use Rattle.doc_model.specs.Documents.{PlainDocument}
-use Rattle.doc_model.specs.Tree.{is_among}
 use Rattle.doc_model.specs.Uri.{is_uri}
-use Rattle.doc_model.specs.declared.node.Node.{Node}
-use Rattle.doc_model.specs.declared.node.Node.TheVariants as node
 use Rattle.docs_format.specs.Spelling.{is_decimal}
-use Rattle.docs_format.specs.Reading.{◌>>=◌, Read, bytes_at, collection_at, collections_at, count_at, document_at}
+use Rattle.docs_format.specs.Reading.{◌>>=◌, Read, bytes_at, collection_at, collections_at, count_at}
 use Rattle.docs_format.specs.Reading.{is_next}
-use Rattle.docs_format.specs.Reading.{items_at, keeping, kind_at, last_of, list_at, member_at, members_at, name_at}
-use Rattle.docs_format.specs.Reading.{names}
-use Rattle.docs_format.specs.Reading.{node_at, node_of, number_at, text_at, units_at, uri_at, wide_at}
+use Rattle.docs_format.specs.Reading.{keeping, last_of, list_at}
+use Rattle.docs_format.specs.Reading.{number_at, text_at, units_at, uri_at, wide_at}
 
 -- what is left, behind a field or from a fault on, is no more than there was
 abbrev pub Within : {X : Type 0} → ℕ → Read X → Type 0
@@ -97,9 +92,9 @@ keeping_forward {X = X} more rule field_at bytes a =
     step_forward (length bytes) more (field_at bytes) (field_at (bytes ++ more)) (judged bytes)
     (judged (bytes ++ more)) a
     (λ x rest le. chosen_forward (rule x) (length bytes) more
-      (Ok (x, rest)) (Err (length bytes)) (Ok (x, rest ++ more)) (Err (length (bytes ++ more)))
-      (gives (length bytes) more (Ok (x, rest)) (Ok (x, rest ++ more)) x rest refl refl le)
-      (refuses bytes more (Err (length bytes)) (Err (length (bytes ++ more))) refl refl))
+    (Ok (x, rest)) (Err (length bytes)) (Ok (x, rest ++ more)) (Err (length (bytes ++ more)))
+    (gives (length bytes) more (Ok (x, rest)) (Ok (x, rest ++ more)) x rest refl refl le)
+    (refuses bytes more (Err (length bytes)) (Err (length (bytes ++ more))) refl refl))
 
 -- a value made of what a step read
 pub made_forward : {X Y : Type 0} (more : List ℕ) (make : X → Y) (x : X) (rest : List ℕ)
@@ -134,7 +129,7 @@ wide_forward : (width : ℕ) (more bytes : List ℕ) → IsForward more (wide_at
 wide_forward width more bytes =
     elim (cases_lt (length bytes) width) [
       | inl lt ↦ ends_early (length bytes) more (wide_at width bytes) (wide_at width (bytes ++ more))
-      (wide_short width bytes lt)
+          (wide_short width bytes lt)
       | inr le ↦
           let same : big_number width (bytes ++ more) ≡ big_number width bytes = same_number width bytes more le in
           let behind : drop width (bytes ++ more) ≡ drop width bytes ++ more = drop-append-le width bytes more le in
@@ -212,5 +207,5 @@ collections_forward more bytes =
     then_forward more (keeping (λ n. nat_le n 64) count_at) (λ n. list_at item_at [] n.0 n.1) bytes
     (keeping_forward more (λ n. nat_le n 64) count_at bytes (count_forward more bytes))
     (λ n rest. list_forward more item_at
-      (λ before field. keeping_forward more (is_next (last_of before)) text_at field
-        (text_forward more field)) n [] rest)
+    (λ before field. keeping_forward more (is_next (last_of before)) text_at field
+    (text_forward more field)) n [] rest)

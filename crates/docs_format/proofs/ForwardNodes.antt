@@ -1,5 +1,5 @@
 -- Reading a node or a document goes forward.
-use Rattle.std.proofs.Common.{◌≡◌, ℕ, ℤ, zero, suc, ◌+◌, Bool, true, false, not, ◌==◌, List, [], ◌∷◌, ◌++◌, length, Ok, Err}
+use Rattle.std.proofs.Common.{ℕ, zero, suc, Bool, true, false, not, ◌==◌, List, [], ◌∷◌, ◌++◌, length, Ok, Err}
 use Rattle.std.proofs.Common.{refl, arith}
 use Rattle.doc_model.specs.Documents.{PlainDocument}
 use Rattle.doc_model.specs.Tree.{is_among}
@@ -22,8 +22,8 @@ module _ (more : List ℕ) (value_at : List ℕ → Read Node)
       then_forward more count_at (λ n. list_at (λ before. value_at) [] n.0 n.1 >>= made) bytes
       (count_forward more bytes)
       (λ n rest. then_forward more (list_at (λ before. value_at) [] n) made rest
-        (list_forward more (λ before. value_at) (λ before. value_forward) n [] rest)
-        (λ items behind. made_forward more node.Items items behind))
+      (list_forward more (λ before. value_at) (λ before. value_forward) n [] rest)
+      (λ items behind. made_forward more node.Items items behind))
 
   member_forward : (before : List (List ℕ × Node)) (bytes : List ℕ) → IsForward more (member_at value_at before) bytes
   unfolding member_at name_at
@@ -34,7 +34,7 @@ module _ (more : List ℕ) (value_at : List ℕ → Read Node)
       then_forward more (name_at (names before)) (λ name. value_at name.1 >>= made name) bytes
       (keeping_forward more fresh text_at bytes (text_forward more bytes))
       (λ name rest. then_forward more value_at (made (name, rest)) rest (value_forward rest)
-        (λ value behind. made_forward more (λ (v : Node). (name, v)) value behind))
+      (λ value behind. made_forward more (λ (v : Node). (name, v)) value behind))
 
   members_forward : (bytes : List ℕ) → IsForward more (members_at value_at) bytes
   unfolding members_at
@@ -43,8 +43,8 @@ module _ (more : List ℕ) (value_at : List ℕ → Read Node)
       then_forward more count_at (λ n. list_at (member_at value_at) [] n.0 n.1 >>= made) bytes
       (count_forward more bytes)
       (λ n rest. then_forward more (list_at (member_at value_at) [] n) made rest
-        (list_forward more (member_at value_at) member_forward n [] rest)
-        (λ members behind. made_forward more node.Members members behind))
+      (list_forward more (member_at value_at) member_forward n [] rest)
+      (λ members behind. made_forward more node.Members members behind))
 
 -- a node of a kind, given what an array and an object give
 kind_forward : (array object long_array long_object : List ℕ → Read Node) (k : ℕ) (rest more : List ℕ)
@@ -62,21 +62,21 @@ kind_forward array object long_array long_object k rest more a o =
     (number_at (rest ++ more) >>= λ n. Ok (node.Num n.0, n.1)) =
     wider (length rest) len more _ _ (omega arith)
     (then_forward more number_at (λ n. Ok (node.Num n.0, n.1)) rest (number_forward more rest)
-      (λ n behind. made_forward more node.Num n behind)) in
+    (λ n behind. made_forward more node.Num n behind)) in
     let texts : Forward len more (text_at rest >>= λ t. Ok (node.Text t.0, t.1))
     (text_at (rest ++ more) >>= λ t. Ok (node.Text t.0, t.1)) =
     wider (length rest) len more _ _ (omega arith)
     (then_forward more text_at (λ t. Ok (node.Text t.0, t.1)) rest (text_forward more rest)
-      (λ t behind. made_forward more node.Text t behind)) in
+    (λ t behind. made_forward more node.Text t behind)) in
     let unknown : Forward len more (let r : Read Node = Err (length (k ∷ rest)) in r)
     (Err (length (k ∷ (rest ++ more)))) =
     refuses (k ∷ rest) more (Err (length (k ∷ rest))) (Err (length (k ∷ (rest ++ more)))) refl refl in
     chosen_forward (k == 0) len more _ _ _ _ (plain node.Null)
     (chosen_forward (k == 1) len more _ _ _ _ (plain (node.Bool false))
-      (chosen_forward (k == 2) len more _ _ _ _ (plain (node.Bool true))
-        (chosen_forward (k == 3) len more _ _ _ _ numbers
-          (chosen_forward (k == 4) len more _ _ _ _ texts
-            (chosen_forward (k == 5) len more _ _ _ _ a (chosen_forward (k == 6) len more _ _ _ _ o unknown))))))
+    (chosen_forward (k == 2) len more _ _ _ _ (plain (node.Bool true))
+    (chosen_forward (k == 3) len more _ _ _ _ numbers
+    (chosen_forward (k == 4) len more _ _ _ _ texts
+    (chosen_forward (k == 5) len more _ _ _ _ a (chosen_forward (k == 6) len more _ _ _ _ o unknown))))))
 
 node_forward : (depth : ℕ) (more bytes : List ℕ) → IsForward more (node_at depth) bytes
 unfolding node_at node_of kind_at
@@ -94,9 +94,9 @@ node_forward (suc depth) more (k ∷ rest) =
     let all = node_forward depth more in
     kind_forward array object array object k rest more
     (wider (length rest) (suc (length rest)) more (array rest) (array (rest ++ more)) (omega arith)
-      (items_forward more (node_at depth) all rest))
+    (items_forward more (node_at depth) all rest))
     (wider (length rest) (suc (length rest)) more (object rest) (object (rest ++ more)) (omega arith)
-      (members_forward more (node_at depth) all rest))
+    (members_forward more (node_at depth) all rest))
 
 -- ---- documents
 
@@ -109,9 +109,9 @@ document_forward more bytes =
     (λ uri. collections_at uri.1 >>= λ collections. node_at 128 collections.1 >>= made uri collections)
     bytes (uri_forward more bytes)
     (λ uri rest. then_forward more collections_at
-      (λ collections. node_at 128 collections.1 >>= made (uri, rest) collections)
-      rest (collections_forward more rest)
-      (λ collections behind. then_forward more (node_at 128) (made (uri, rest) (collections, behind)) behind
-        (node_forward 128 more behind)
-        (λ root left. made_forward more
-          (λ (r : Node). record { uri = uri; collections = collections; root = r }) root left)))
+    (λ collections. node_at 128 collections.1 >>= made (uri, rest) collections)
+    rest (collections_forward more rest)
+    (λ collections behind. then_forward more (node_at 128) (made (uri, rest) (collections, behind)) behind
+    (node_forward 128 more behind)
+    (λ root left. made_forward more
+    (λ (r : Node). record { uri = uri; collections = collections; root = r }) root left)))

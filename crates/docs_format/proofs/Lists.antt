@@ -60,7 +60,7 @@ module _ {X : Type 0} (item_at : List X → List ℕ → Read X) where
   -- what holds of the values so far, and still with each one more, holds of all
   pub list_keeps : (P : List X → Type 0)
       → ((before : List X) (bytes : List ℕ) (x : X × List ℕ) → P before → item_at before bytes ≡ Ok x → P
-        (before ++ x.0 ∷ []))
+      (before ++ x.0 ∷ []))
       → (n : ℕ) (before : List X) (bytes : List ℕ) (x : List X × List ℕ) → P before
       → list_at item_at before n bytes ≡ Ok x → P x.0
   unfolding list_at
@@ -105,7 +105,7 @@ Follows P before (y ∷ ys) = P before y × Follows P (before ++ y ∷ []) ys
 
 module _ {X : Type 0} (item_at : List X → List ℕ → Read X) (spelling : X → List ℕ) (P : List X → X → Type 0)
     (each : (before : List X) (y : X) (rest : List ℕ) → P before y → item_at before (spelling y ++ rest) ≡ Ok
-      (y, rest)) where
+    (y, rest)) where
   pub list_again : (ys before : List X) (rest : List ℕ) → Follows P before ys
       → list_at item_at before (length ys) (flat_map spelling ys ++ rest) ≡ Ok (before ++ ys, rest)
   unfolding list_at
@@ -118,4 +118,4 @@ module _ {X : Type 0} (item_at : List X → List ℕ → Read X) (spelling : X �
       ap (list_at item_at before (suc (length ys))) regrouped
       ∙ rw (each before y behind f.0)
       (list_again ys (before ++ y ∷ []) rest f.1 ∙ ap (λ (xs : List X). Ok (xs, rest))
-        (append_assoc before (y ∷ []) ys))
+      (append_assoc before (y ∷ []) ys))

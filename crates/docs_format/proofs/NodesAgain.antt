@@ -1,5 +1,5 @@
 -- A node that was written is read again.
-use Rattle.std.proofs.Common.{◌≡◌, ℕ, ℤ, zero, suc, ◌+◌, ◌-◌, ◌^◌, ◌<◌, ◌≤◌, Bool, true, false, ◌&&◌, ◌||◌, not}
+use Rattle.std.proofs.Common.{◌≡◌, ℕ, ℤ, zero, suc, ◌+◌, ◌^◌, ◌<◌, ◌≤◌, Bool, true, false, ◌&&◌, ◌||◌, not}
 use Rattle.std.proofs.Common.{List, [], ◌∷◌}
 use Rattle.std.proofs.Common.{◌++◌, length, map, sum_by, Ok, refl, sym, ap, subst, ◌∙◌, append_assoc, arith}
 use Rattle.std.specs.List.{flat_map, list_all}
@@ -104,7 +104,7 @@ none_first (m ∷ ms) = none_first ms
 
 module _ (depths : ℕ) (value_at : List ℕ → Read Node)
     (value_again : (n : Node) (rest : List ℕ) → IsWritten depths n → value_at (spell.node n ++ rest) ≡ Ok
-      (n, rest)) where
+    (n, rest)) where
   items_again : (list : List Node) (rest : List ℕ) → Follows (IsItem depths) [] list → length list < 2 ^ 32
       → items_at value_at (spell.items list ++ rest) ≡ Ok (node.Items list, rest)
   unfolding items_at
@@ -197,10 +197,9 @@ array_again depths all list rest w =
     let values : list_all spell.has_values list ≡ true = sym (values_items list) ∙ w.values in
     let names : list_all has_distinct_names list ≡ true = sym (names_items list) ∙ w.names in
     let f = items_follow depths list [] values (omega (arith, shallow)) names (omega (arith, small)) in
-    let one : suc depths - 1 ≡ depths = omega arith in
     spelled_so (suc depths) (node.Items list) (5 ∷ spell.items list) (spell_items list) rest
-    ∙ kind_items (5 ∷ behind) 5 behind (kind_first 5 behind) (suc depths) refl (omega arith)
-    ∙ rw one (items_again depths (node_at depths) all list rest f (omega (arith, small, length-items list)))
+    ∙ kind_items (5 ∷ behind) 5 behind (kind_first 5 behind) (suc depths) depths refl (omega arith)
+    ∙ items_again depths (node_at depths) all list rest f (omega (arith, small, length-items list))
 
 object_again : (depths : ℕ) → ((n : Node) → IsAgain depths n) → (list : List (List ℕ × Node))
     → IsAgain (suc depths) (node.Members list)
@@ -214,10 +213,9 @@ object_again depths all list rest w =
     (sym (names_members list) ∙ w.names) in
     let f =
     members_follow depths list [] values (omega (arith, shallow)) q.0 (none_first list) q.1 (omega (arith, small)) in
-    let one : suc depths - 1 ≡ depths = omega arith in
     spelled_so (suc depths) (node.Members list) (6 ∷ spell.members list) (spell_members list) rest
-    ∙ kind_members (6 ∷ behind) 6 behind (kind_first 6 behind) (suc depths) refl (omega arith)
-    ∙ rw one (members_again depths (node_at depths) all list rest f (omega (arith, small, length-members list)))
+    ∙ kind_members (6 ∷ behind) 6 behind (kind_first 6 behind) (suc depths) depths refl (omega arith)
+    ∙ members_again depths (node_at depths) all list rest f (omega (arith, small, length-members list))
 
 abbrev Opened : Node → Type 0
 Opened n = (z : Node-F Node) × (roll-Node z ≡ n)

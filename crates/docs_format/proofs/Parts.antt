@@ -1,5 +1,5 @@
 -- What is behind a count, as the list that it counts, and a node by its kind.
-use Rattle.std.proofs.Common.{◌≡◌, ℕ, ℤ, zero, suc, ◌-◌, ◌≤◌, ◌<◌, Bool, true, false, cond, eqb, nat_le, ◌==◌}
+use Rattle.std.proofs.Common.{◌≡◌, ℕ, ℤ, zero, suc, ◌+◌, ◌≤◌, ◌<◌, Bool, true, false, cond, eqb, nat_le, ◌==◌}
 use Rattle.std.proofs.Common.{List, [], ◌∷◌, ◌++◌, length, Result, Ok, Err, ◌⊎◌, inl, inr, refl, sym, subst, ◌∙◌, arith}
 use Rattle.std.proofs.lemmas.Bool.{eqb-true, le-leb}
 use Rattle.std.proofs.lemmas.Bool.Decides.{nat_tests}
@@ -84,22 +84,24 @@ module _ (bytes : List ℕ) (k : ℕ) (rest : List ℕ) (e : kind_at bytes ≡ O
   kind_text zero is = rw (e, is) refl
   kind_text (suc depth) is = rw (e, is) refl
 
-  pub kind_items : (depth : ℕ) → k ≡ 5 → 0 < depth
-      → node_at depth bytes ≡ items_at (node_at (depth - 1)) rest
+  pub kind_items : (depth inner : ℕ) → k ≡ 5 → inner + 1 ≡ depth → node_at depth bytes ≡ items_at (node_at inner) rest
   unfolding node_at node_of
-  kind_items zero is deep = absurd (omega arith)
-  kind_items (suc depth) is deep = let one : suc depth - 1 ≡ depth = omega arith in rw (e, is, one) refl
+  kind_items zero inner is deep = absurd (omega arith)
+  kind_items (suc depth) inner is deep = let same : depth ≡ inner = omega arith in rw (e, is, same) refl
 
-  pub kind_members : (depth : ℕ) → k ≡ 6 → 0 < depth
-      → node_at depth bytes ≡ members_at (node_at (depth - 1)) rest
+  pub kind_members : (depth inner : ℕ) → k ≡ 6 → inner + 1 ≡ depth → node_at depth bytes ≡ members_at (node_at inner) rest
   unfolding node_at node_of
-  kind_members zero is deep = absurd (omega arith)
-  kind_members (suc depth) is deep = let one : suc depth - 1 ≡ depth = omega arith in rw (e, is, one) refl
+  kind_members zero inner is deep = absurd (omega arith)
+  kind_members (suc depth) inner is deep = let same : depth ≡ inner = omega arith in rw (e, is, same) refl
 
   pub kind_deep : (depth : ℕ) → (k ≡ 5) ⊎ (k ≡ 6) → depth ≡ 0 → node_at depth bytes ≡ Err (length bytes)
   unfolding node_at node_of
   kind_deep depth (inl is) none = rw (none, e, is) refl
   kind_deep depth (inr is) none = rw (none, e, is) refl
+
+  pub stops_deep : (why : Stop) (left depth : ℕ) → (k ≡ 5) ⊎ (k ≡ 6) → left ≡ length bytes
+      → (depth ≡ 0) × (why ≡ stop.Left left) → Stops why (node_at depth bytes)
+  stops_deep why left depth kind all d = rw (d.1, all) (kind_deep depth kind d.0)
 
   pub kind_other : (depth : ℕ) → 7 ≤ k → node_at depth bytes ≡ Err (length bytes)
   unfolding node_at node_of

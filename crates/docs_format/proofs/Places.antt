@@ -1,7 +1,7 @@
 -- Where a fault is, and that it stays there.
 use Rattle.std.proofs.Common.{◌≡◌, ℕ, ◌+◌, ◌-◌, ◌^◌, ◌<◌, ◌≤◌, Bool, true, false, cond, not, nat_lt, ◌==◌, List, []}
-use Rattle.std.proofs.Common.{◌∷◌, ◌++◌}
-use Rattle.std.proofs.Common.{length, Result, Ok, Err, ◌⊎◌, inl, inr, refl, sym, ap, subst, ◌∙◌, arith}
+use Rattle.std.proofs.Common.{◌++◌}
+use Rattle.std.proofs.Common.{length, Result, Ok, Err, ◌⊎◌, inl, inr, refl, sym, ap, ◌∙◌, arith}
 use Rattle.std.specs.Prelude.{IfErr}
 use Rattle.std.proofs.lemmas.Bool.{cases_Bool, eqb-false, ne_eqb, not-true}
 use Rattle.std.proofs.lemmas.List.{append-nil, length-append}
@@ -9,7 +9,6 @@ use Rattle.doc_model.specs.Documents.{PlainDocument, document_size}
 use Rattle.docs_format.specs.Answers.{Answers, IsPlaced}
 use Rattle.docs_format.specs.Laws.{BeginningsEndEarly, FaultsStay, MoreIsTooMany}
 use Rattle.docs_format.specs.Reading.{◌>>=◌, Read, document_at, document_of, placed, whole_of}
-use Rattle.docs_format.specs.Spelling.{Spells}
 use Rattle.docs_format.specs.declared.fault.DocBytesBad.{DocBytesBad}
 use Rattle.docs_format.specs.declared.fault.DocBytesBad.TheVariants as bad
 use Rattle.docs_format.proofs.Again.{spelled_again}

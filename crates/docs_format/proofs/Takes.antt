@@ -87,7 +87,7 @@ module _ (value_at : List ℕ → Read Node)
       subst (λ (ys : List Node). list_all spell.has_values ys ≡ true) (sym l.1) l.4 in
       subst (λ (y : Node × List ℕ). IsRead bytes 5 y) (ok_is (node.Items b.0.0, b.0.1) x b.2)
       (is_read bytes 5 (node.Items b.0.0) (spell.items b.0.0) b.0.1 (spell_items b.0.0) parts
-        (values_items b.0.0 ∙ values))
+      (values_items b.0.0 ∙ values))
 
   member_takes : (before : List (List ℕ × Node)) (bytes : List ℕ) (x : (List ℕ × Node) × List ℕ) → IsBytes bytes
       → member_at value_at before bytes ≡ Ok x

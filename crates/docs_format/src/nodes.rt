@@ -1,5 +1,6 @@
-ghost use Rattle.std.specs.Prelude.{◌∷◌, [], ◌++◌, List, ℕ, IfOk};
+ghost use Rattle.std.specs.Prelude.{◌≡◌, ◌+◌, ◌∷◌, [], ◌++◌, List, ℕ, IfErr, IfOk};
 ghost use Rattle.docs_format.specs.Answers.{Gives, HasNames};
+ghost use Rattle.docs_format.specs.declared.fault.Stop.TheVariants.{Left};
 ghost use Rattle.docs_format.specs.Reading.{items_at, member_at, members_at, names, node_at};
 
 use crate::fault::Stop;
@@ -22,20 +23,18 @@ pub fn node_at(alloc: Global, depth: u32, reader: &mut Reader) -> Result<Node, S
         2 => Ok(Node::Bool(true)),
         3 => Ok(Node::Num(reader.number()?)),
         4 => Ok(Node::Text(Text::from_str(alloc, reader.text()?)?)),
-        5 => {
-            if depth == 0 {
-                return Err(Stop::Left(left));
-            }
-            items_at(alloc, depth - 1, reader)
-        }
-        6 => {
-            if depth == 0 {
-                return Err(Stop::Left(left));
-            }
-            members_at(alloc, depth - 1, reader)
-        }
+        5 => items_at(alloc, inside(depth, left)?, reader),
+        6 => members_at(alloc, inside(depth, left)?, reader),
         7.. => Err(Stop::Left(left)),
     }
+}
+
+/// How many arrays and objects may enclose each other inside of one, where so many may with it.
+fn inside(depth: u32, left: usize) -> Result<u32, Stop>
+    ensures deep { IfErr result (λ why. (depth ≡ 0) × (why ≡ Left left)) }
+    ensures inner { IfOk result (λ inner. inner + 1 ≡ depth) }
+{
+    depth.checked_sub(1).ok_or(Stop::Left(left))
 }
 
 #[cycle(reading)]

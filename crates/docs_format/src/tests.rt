@@ -7,8 +7,8 @@ use std::test::*;
 const ONE: &[u8; 27] = b"\0\0\0\x02/a\0\0\0\0\x03\0\0\0\0\0\0\0\0\x0D\xE0\xB6\xB3\xA7\x64\0\0";
 
 /// The document `{"n":null,"a":[true,"x",false]}` under `/r`, in the collections `b` and `c`.
-const RICH: &[u8; 49] =
-    b"\0\0\0\x02/r\0\0\0\x02\0\0\0\x01b\0\0\0\x01c\x06\0\0\0\x02\0\0\0\x01n\0\0\0\0\x01a\x05\0\0\0\x03\x02\x04\0\0\0\x01x\x01";
+const RICH: &[u8; 49] = b"\0\0\0\x02/r\0\0\0\x02\0\0\0\x01b\0\0\0\x01c\x06\0\0\0\x02\
+      \0\0\0\x01n\0\0\0\0\x01a\x05\0\0\0\x03\x02\x04\0\0\0\x01x\x01";
 
 fn place_of(alloc: Global, bytes: &[u8]) -> Option<u64> {
     match decode(alloc, bytes) {

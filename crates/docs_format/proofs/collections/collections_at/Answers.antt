@@ -13,19 +13,19 @@ returns-in_err-last c =
     let p = err_from_is_err_and c.from_residual-in_err-last.result c.from_residual-in_err-last.ensures.1 in
     rw (p.1, p.2)
     (stops_same c.in_err-last.field-0.0 _ (collections_at c.args.reader.now)
-      (collections_are c.args.reader.now c.in_ok-count.count c.count.new.self c.in_ok-count.ensures
-      c.if-count-gt-MOST_COLLECTIONS.false)
+    (collections_are c.args.reader.now c.in_ok-count.count c.count.new.self c.in_ok-count.ensures
+    c.if-count-gt-MOST_COLLECTIONS.false)
     (stops c.in_err-last.field-0.0 (λ before. collection_at
-      (last_of before)) c.loop.collections c.in_ok-count.count c.loop.counter c.loop.reader _ c.loop-test.true (rw
-      (← c.loop.invariant.last) c.in_err-last.ensures) c.loop.invariant.total))
+    (last_of before)) c.loop.collections c.in_ok-count.count c.loop.counter c.loop.reader _ c.loop-test.true (rw
+    (← c.loop.invariant.last) c.in_err-last.ensures) c.loop.invariant.total))
 
 pub loop-preserved : goal.loop-preserved
 loop-preserved c = record {
   total =
       rw (c.in_ok-push.ensures.ok, c.in_ok-from_str.ensures)
       (goes_on (λ before. collection_at (last_of before)) c.loop.collections c.in_ok-count.count c.loop.counter
-        c.loop.reader c.in_ok-last.last.now c.collection_at.new.reader _ c.loop-test.true
-        (rw (← c.loop.invariant.last) c.in_ok-last.ensures) c.loop.invariant.total);
+      c.loop.reader c.in_ok-last.last.now c.collection_at.new.reader _ c.loop-test.true
+      (rw (← c.loop.invariant.last) c.in_ok-last.ensures) c.loop.invariant.total);
   last =
       rw (c.in_ok-push.ensures.ok, c.in_ok-from_str.ensures)
       (sym (last_of-push c.loop.collections c.in_ok-last.last.now));
@@ -35,7 +35,7 @@ loop-preserved c = record {
 pub returns : goal.returns
 returns c =
     collections_are c.args.reader.now c.in_ok-count.count c.count.new.self c.in_ok-count.ensures
-      c.if-count-gt-MOST_COLLECTIONS.false
+    c.if-count-gt-MOST_COLLECTIONS.false
     ∙ ends
     (λ before. collection_at (last_of before)) c.loop.collections c.in_ok-count.count c.loop.counter c.loop.reader _
-      c.loop-test.false c.loop.invariant.total
+    c.loop-test.false c.loop.invariant.total

@@ -23,6 +23,6 @@ invariant-items_at-loop l =
 abbrev pub invariant-members_at-loop : goal.invariant-members_at-loop
 invariant-members_at-loop l = record {
   total : list_at (member_at (node_at l.depth)) l.members (l.count - l.counter) l.reader
-        ≡ list_at (member_at (node_at l.depth)) [] l.count l.initial.reader;
+      ≡ list_at (member_at (node_at l.depth)) [] l.count l.initial.reader;
   seen : HasNames l.seen (names l.members);
 }

@@ -11,8 +11,13 @@ returns-in-Err c =
     record { uri = c.in_ok-uri-2.uri; collections = c.in_ok-collections.collections; root = c.in_ok-root.root } in
     let x : PlainDocument × List ℕ = (d, c.node_at.new.reader) in
     let read : document_at c.args.bytes.now ≡ Ok x =
-    rw (← c.new-reader.ensures, c.in_ok-uri.ensures, c.in_ok-collections.ensures, c.in_ok-root.ensures,
-      c.in_ok-uri-2.ensures) refl in
+    rw (
+      ← c.new-reader.ensures,
+      c.in_ok-uri.ensures,
+      c.in_ok-collections.ensures,
+      c.in_ok-root.ensures,
+      c.in_ok-uri-2.ensures,
+    ) refl in
     let none : length c.node_at.new.reader ≡ 0 = omega (arith, c.if-left-gt0.false, c.left.ensures) in
     let large = refused_large c.args.bytes.now x c.in-Err.field-0 read c.in-Err.ensures.refused (search rules) in
     rw (read, none, large) refl

@@ -10,4 +10,4 @@ pub returns-in-Err : goal.returns-in-Err
 returns-in-Err c =
     rw c.left-left.ensures
     (text_unkept c.args.self.now c.in_ok-bytes.field-0.now c.bytes.new.self c.in_ok-bytes.ensures
-      c.in-Err.ensures.cases.0)
+    c.in-Err.ensures.cases.0)
