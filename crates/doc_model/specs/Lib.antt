@@ -4,3 +4,4 @@ pub mod Tree
 pub mod Documents
 pub mod Operations
 pub mod Queries
+pub mod Kinds

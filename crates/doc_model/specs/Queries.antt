@@ -167,5 +167,6 @@ broken_query_rule q indexes =
 abbrev pub RefusesQuery : Query → List Index → QueryBad → Type 0
 RefusesQuery q indexes why = (why ≡ rule.Memory) ⊎ (broken_query_rule q indexes ≡ Some why)
 
+-- the same of all of some queries
 abbrev pub near_fit_of_all : List Query → NearFit
 near_fit_of_all qs = record { may_be_near = list_all (λ q. (near_fit q).may_be_near) qs; fits = list_all (λ q. (near_fit q).fits) qs }

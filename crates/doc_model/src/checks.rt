@@ -4,6 +4,7 @@ ghost use Rattle.doc_model.specs.Queries.{broken_query_rule, RefusesQuery};
 mod count;
 mod depth;
 mod directories;
+mod kinds;
 mod near;
 mod ranges;
 
@@ -23,8 +24,8 @@ const MOST_PARTS: u32 = 10_000;
 /// is answered. Null and booleans in a range query want no index.
 ///
 /// It looks no deeper than 32 queries and at no more than 10,000 parts before the last three rules, and takes
-/// memory for the name of a missing index alone. The last rule takes the time of each name with each value of a
-/// range query.
+/// memory for the name of a missing index alone. The last rule takes the time of the parts, and for each name of
+/// a range query that of two looks at the indexes.
 pub fn check_query(alloc: Global, query: &Query, indexes: &Indexes) -> Result<(), QueryBad>
     ensures ok { OnOk result (broken_query_rule query.now indexes.now ≡ None) }
     ensures refused { IfErr result (RefusesQuery query.now indexes.now) }

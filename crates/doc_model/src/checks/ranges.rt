@@ -1,8 +1,10 @@
-ghost use Rattle.std.specs.Prelude.{◌≡◌, IfOk, map, flat_map};
+ghost use Rattle.std.specs.Prelude.{◌≡◌, ◌∷◌, [], IfOk, map, flat_map};
 ghost use Rattle.std.specs.Option.{option_map};
-ghost use Rattle.doc_model.specs.Queries.{missing_index, first_missing, range_indexes, kind_of, kinds_of, wanted_indexes};
+ghost use Rattle.doc_model.specs.Kinds.{listed};
+ghost use Rattle.doc_model.specs.Queries.{missing_index, first_missing, range_indexes, wanted_indexes};
 
-use crate::{Indexes, Kind, Queries, Query, Scalar, Scalars, Text, Texts};
+use crate::checks::kinds::{Kinds, kinds_among, other_kind};
+use crate::{Indexes, Kind, Queries, Query, Scalars, Text, Texts};
 use std::alloc::{AllocError, Global};
 
 /// The first index that a query wants and that isn't there, as a property's name and a kind.
@@ -46,6 +48,7 @@ fn missing_in_any(
     Ok(None)
 }
 
+/// It takes the time of the values and, for each name, of two looks at the indexes.
 fn missing_in_range(
     alloc: Global,
     names: &Texts,
@@ -54,33 +57,34 @@ fn missing_in_range(
 ) -> Result<Option<(Text, Kind)>, AllocError>
     ensures { IfOk result (λ missing. missing ≡ first_missing indexes.now (range_indexes names.now values.now)) }
 {
+    let kinds = kinds_among(values);
     for name in names.as_slice() {
-        if let Some(kind) = missing_of_name(name, values, indexes) {
+        if let Some(kind) = missing_of_name(name, kinds, indexes) {
             return Ok(Some((name.copy(alloc)?, kind)));
         }
     }
     Ok(None)
 }
 
-fn missing_of_name(name: &Text, values: &Scalars, indexes: &Indexes) -> Option<Kind>
-    ensures { option_map (λ k. (name.now, k)) result ≡ first_missing indexes.now (map (λ k. (name.now, k)) (kinds_of values.now)) }
+fn missing_of_name(name: &Text, kinds: Kinds, indexes: &Indexes) -> Option<Kind>
+    ensures { option_map (λ k. (name.now, k)) result ≡ first_missing indexes.now (map (λ k. (name.now, k)) (listed kinds)) }
 {
-    for value in values.as_slice() {
-        if let Some(kind) = kind_of(value) {
-            if !indexes.has(name.as_str(), kind) {
-                return Some(kind);
-            }
-        }
+    match kinds {
+        Kinds::Neither => None,
+        Kinds::One(kind) => missing_kind(name, kind, indexes),
+        Kinds::Both(first) => match missing_kind(name, first, indexes) {
+            Some(kind) => Some(kind),
+            None => missing_kind(name, other_kind(first), indexes),
+        },
     }
-    None
 }
 
-fn kind_of(value: &Scalar) -> Option<Kind>
-    ensures { result ≡ kind_of value.now }
+fn missing_kind(name: &Text, kind: Kind, indexes: &Indexes) -> Option<Kind>
+    ensures { option_map (λ k. (name.now, k)) result ≡ first_missing indexes.now ((name.now, kind) ∷ []) }
 {
-    match value {
-        Scalar::Num(_) => Some(Kind::Decimal),
-        Scalar::Text(_) => Some(Kind::Text),
-        Scalar::Null | Scalar::Bool(_) => None,
+    if indexes.has(name.as_str(), kind) {
+        None
+    } else {
+        Some(kind)
     }
 }
