@@ -6,6 +6,7 @@ pub mod HistoryLemmas
 pub mod MeaningLemmas
 pub mod NearLemmas
 pub mod RisingLemmas
+pub mod ShownLemmas
 pub mod SortedLemmas
 pub mod StandLemmas
 pub mod WordsLemmas

@@ -17,7 +17,7 @@ use Rattle.doc_model.specs.declared.query.Query.{Query}
 use Rattle.doc_model.specs.declared.query.Query.TheVariants.{And, Near}
 use Rattle.doc_meaning.specs.Answers.{answer, estimate}
 use Rattle.doc_meaning.specs.Estimates.{maybe, sure}
-use Rattle.doc_meaning.specs.History.{History, first, front, merge, latest, database_at, shown, base_at}
+use Rattle.doc_meaning.specs.History.{History, IsBase, IsHistory, first, front, merge, latest, database_at, shown, base_at}
 use Rattle.doc_meaning.specs.Meaning.{sat}
 use Rattle.doc_meaning.specs.Near.{is_near, is_rising, IsNear}
 use Rattle.doc_meaning.specs.Runs.{AreMaximalRuns}
@@ -90,6 +90,10 @@ OthersStay = (h : History) (ops : List Op) (uri : List ℕ) → is_among (map ur
 abbrev pub ShownIsTheSame : Type 0
 ShownIsTheSame = (h : History) → ((shown h).front ≡ front h) × ((shown h).merge ≡ merge h) × ((shown h).settings ≡ h.base.settings)
     × ((at : ℕ) → merge h ≤ at → at ≤ front h → base_at (shown h) at ≡ database_at h at)
+
+-- what is shown of a history is a base again
+abbrev pub ShownIsABase : Type 0
+ShownIsABase = (h : History) → IsHistory h → IsBase (shown h)
 
 -- the first entries have the same databases up to there
 abbrev pub FirstIsTheSame : Type 0

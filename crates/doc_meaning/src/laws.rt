@@ -1,6 +1,6 @@
 ghost use Rattle.doc_meaning.specs.Laws.{AndSatisfiesEach, NearHoldsFurther, NearIsAChoice, RisingRises, WordsAreMaximalRuns};
 ghost use Rattle.doc_meaning.specs.Laws.{AnswersAreSorted, EstimateIsNoLess, SatisfiesMaybe, SureSatisfies};
-ghost use Rattle.doc_meaning.specs.Laws.{FirstEndsThere, FirstIsTheSame, LaterEntriesChangeNothing, ShownIsTheSame};
+ghost use Rattle.doc_meaning.specs.Laws.{FirstEndsThere, FirstIsTheSame, LaterEntriesChangeNothing, ShownIsABase, ShownIsTheSame};
 ghost use Rattle.doc_meaning.specs.Laws.{OthersStay, PutIsLive, RemovedIsGone};
 
 /// The words of a text are exactly its maximal runs of word characters.
@@ -71,6 +71,11 @@ pub fn others_stay()
 /// What is shown of a history has its front, merge timestamp and settings, and its databases between.
 pub fn shown_is_the_same()
     ensures { ShownIsTheSame }
+{}
+
+/// What is shown of a history is a base again.
+pub fn shown_is_a_base()
+    ensures { ShownIsABase }
 {}
 
 /// The first entries have the same databases up to there.
