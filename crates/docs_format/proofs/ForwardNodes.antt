@@ -6,9 +6,12 @@ use Rattle.doc_model.specs.Tree.{is_among}
 use Rattle.doc_model.specs.declared.node.Node.{Node}
 use Rattle.doc_model.specs.declared.node.Node.TheVariants as node
 use Rattle.docs_format.specs.Reading.{◌>>=◌, Read, collections_at, count_at, document_at, items_at, kind_at, list_at}
-use Rattle.docs_format.specs.Reading.{member_at, members_at, name_at, names, node_at, node_of, number_at, text_at, uri_at}
-use Rattle.docs_format.proofs.Forward.{Forward, IsForward, chosen_forward, collections_forward, count_forward, ends_early}
-use Rattle.docs_format.proofs.Forward.{keeping_forward, list_forward, made_forward, number_forward, refuses, text_forward}
+use Rattle.docs_format.specs.Reading.{member_at, members_at, name_at, names, node_at, node_of, number_at, text_at}
+use Rattle.docs_format.specs.Reading.{uri_at}
+use Rattle.docs_format.proofs.Forward.{Forward, IsForward, chosen_forward, collections_forward, count_forward}
+use Rattle.docs_format.proofs.Forward.{ends_early}
+use Rattle.docs_format.proofs.Forward.{keeping_forward, list_forward, made_forward, number_forward, refuses}
+use Rattle.docs_format.proofs.Forward.{text_forward}
 use Rattle.docs_format.proofs.Forward.{then_forward, uri_forward, wider}
 
 -- ---- nodes

@@ -84,12 +84,14 @@ module _ (bytes : List ℕ) (k : ℕ) (rest : List ℕ) (e : kind_at bytes ≡ O
   kind_text zero is = rw (e, is) refl
   kind_text (suc depth) is = rw (e, is) refl
 
-  pub kind_items : (depth inner : ℕ) → k ≡ 5 → inner + 1 ≡ depth → node_at depth bytes ≡ items_at (node_at inner) rest
+  pub kind_items : (depth inner : ℕ) → k ≡ 5 → inner + 1 ≡ depth
+      → node_at depth bytes ≡ items_at (node_at inner) rest
   unfolding node_at node_of
   kind_items zero inner is deep = absurd (omega arith)
   kind_items (suc depth) inner is deep = let same : depth ≡ inner = omega arith in rw (e, is, same) refl
 
-  pub kind_members : (depth inner : ℕ) → k ≡ 6 → inner + 1 ≡ depth → node_at depth bytes ≡ members_at (node_at inner) rest
+  pub kind_members : (depth inner : ℕ) → k ≡ 6 → inner + 1 ≡ depth
+      → node_at depth bytes ≡ members_at (node_at inner) rest
   unfolding node_at node_of
   kind_members zero inner is deep = absurd (omega arith)
   kind_members (suc depth) inner is deep = let same : depth ≡ inner = omega arith in rw (e, is, same) refl

@@ -111,17 +111,21 @@ node_at-returns-in_ok-from_str-in-4 t c =
 
 pub node_at-returns-in_err-inside-in-5 : goal.node_at-returns-in_err-inside-in-5
 node_at-returns-in_err-inside-in-5 t c =
-    let p = err_from_is_err_and c.from_residual-in_err-inside-in-5.result c.from_residual-in_err-inside-in-5.ensures.1 in
+    let q = c.from_residual-in_err-inside-in-5.ensures in
+    let p = err_from_is_err_and c.from_residual-in_err-inside-in-5.result q.1 in
     rw (p.1, p.2)
-    (stops_deep c.args.reader.now c.in_ok-kind.field-0 c.kind.new.self c.in_ok-kind.ensures c.in_err-inside-in-5.field-0.0
-    c.left-left.result c.args.depth (inl c.in-5.is) c.left-left.ensures c.in_err-inside-in-5.ensures.deep)
+    (stops_deep c.args.reader.now c.in_ok-kind.field-0 c.kind.new.self c.in_ok-kind.ensures
+    c.in_err-inside-in-5.field-0.0 c.left-left.result c.args.depth (inl c.in-5.is) c.left-left.ensures
+    c.in_err-inside-in-5.ensures.deep)
 
 pub node_at-returns-in_err-inside-in-6 : goal.node_at-returns-in_err-inside-in-6
 node_at-returns-in_err-inside-in-6 t c =
-    let p = err_from_is_err_and c.from_residual-in_err-inside-in-6.result c.from_residual-in_err-inside-in-6.ensures.1 in
+    let q = c.from_residual-in_err-inside-in-6.ensures in
+    let p = err_from_is_err_and c.from_residual-in_err-inside-in-6.result q.1 in
     rw (p.1, p.2)
-    (stops_deep c.args.reader.now c.in_ok-kind.field-0 c.kind.new.self c.in_ok-kind.ensures c.in_err-inside-in-6.field-0.0
-    c.left-left.result c.args.depth (inr c.in-6.is) c.left-left.ensures c.in_err-inside-in-6.ensures.deep)
+    (stops_deep c.args.reader.now c.in_ok-kind.field-0 c.kind.new.self c.in_ok-kind.ensures
+    c.in_err-inside-in-6.field-0.0 c.left-left.result c.args.depth (inr c.in-6.is) c.left-left.ensures
+    c.in_err-inside-in-6.ensures.deep)
 
 pub node_at-returns-in_ok-inside-in-5 : goal.node_at-returns-in_ok-inside-in-5
 node_at-returns-in_ok-inside-in-5 t c =
