@@ -46,5 +46,6 @@ MayBecome step old_changes old_sure changes sure =
 
 -- the change that a write of these bytes to this log makes
 abbrev pub IsWrite : ℕ → List ℕ → List ℕ → Change → Type 0
-IsWrite place bytes content (Wrote p copy over) = (p ≡ place) × (copy.items ≡ bytes) × (over.items ≡ take (length bytes) (drop place content))
+IsWrite place bytes content (Wrote p copy over) =
+    (p ≡ place) × (copy.items ≡ bytes) × (over.items ≡ take (length bytes) (drop place content))
 IsWrite place bytes content _ = ⊥

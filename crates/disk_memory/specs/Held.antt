@@ -5,6 +5,7 @@ use Rattle.std.specs.declared.snapshot.Snapshot.{Snapshot}
 use Rattle.disk_model.specs.Changes.{OnlyAt}
 use Rattle.disk_model.specs.Logs.{Image, Outcomes, Follows}
 use Rattle.disk_model.specs.Moments.{Elapses}
+use Rattle.disk_memory.specs.declared.change.Change.{Change}
 use Rattle.disk_memory.specs.declared.log.MemoryLog.{MemoryLog}
 use Rattle.disk_memory.specs.Changes.{MayHold}
 
@@ -13,14 +14,29 @@ abbrev pub content_of : Option MemoryLog → List ℕ
 content_of None = []
 content_of (Some log) = log.content.items
 
+-- what is read of each log
 abbrev pub read_of : List MemoryLog → Image
 read_of logs file = content_of (slice_get logs file)
+
+-- what is read of this log changes so, and of the others nothing
+abbrev pub ReadBecomes : ℕ → (List ℕ → List ℕ → Type 0) → List MemoryLog → List MemoryLog → Type 0
+ReadBecomes file change old new = OnlyAt file change (read_of old) (read_of new)
+
+-- the changes that the last sync of a log doesn't make sure of
+abbrev pub pending_of : Option MemoryLog → List Change
+pending_of None = []
+pending_of (Some log) = log.pending.items
+
+-- those of each log
+abbrev pub changes_of : List MemoryLog → ℕ → List Change
+changes_of logs file = pending_of (slice_get logs file)
 
 -- what a crash may leave of a log
 abbrev pub LeavesOf : Option MemoryLog → List ℕ → Type 0
 LeavesOf None bytes = bytes ≡ []
 LeavesOf (Some log) bytes = MayHold log.pending.items log.sure.value.items bytes
 
+-- what a crash may leave of all of them
 abbrev pub MayLeave : List MemoryLog → Outcomes
 MayLeave logs image = (file : ℕ) → LeavesOf (slice_get logs file) (image file)
 
@@ -34,16 +50,18 @@ abbrev pub LeftSince : List (Snapshot (Vec MemoryLog Global)) → List MemoryLog
 LeftSince past logs moment image = MayLeave logs image ⊎ MightLeave (drop moment past) image
 
 -- after a change of one log: what a crash may leave, and time went on
-pub record Steps (file : ℕ) (change : List ℕ → List ℕ → Type 0) (past : List (Snapshot (Vec MemoryLog Global))) (logs : List MemoryLog)
+pub record Steps (file : ℕ) (change : List ℕ → List ℕ → Type 0)
+    (past : List (Snapshot (Vec MemoryLog Global))) (logs : List MemoryLog)
     (later : List (Snapshot (Vec MemoryLog Global))) (changed : List MemoryLog) : Type 0 where
   pub crash : Follows (OnlyAt file change) (MayLeave logs) (MayLeave changed)
   pub time : Elapses (length past) (length later) (LeftSince past logs) (LeftSince later changed) (MayLeave changed)
 
+-- the bytes of a log, none where there is none
 abbrev pub items_of : Option (Vec ℕ Global) → List ℕ
 items_of None = []
 items_of (Some content) = content.items
 
--- the bytes of each
+-- the bytes of each, none where there is none
 abbrev pub bytes_of : List (Vec ℕ Global) → Image
 bytes_of contents file = items_of (slice_get contents file)
 
@@ -51,7 +69,8 @@ bytes_of contents file = items_of (slice_get contents file)
 abbrev pub AreSure : List MemoryLog → List (Vec ℕ Global) → Type 0
 AreSure [] [] = Unit {0}
 AreSure (log ∷ logs) (content ∷ contents) =
-    (log.content.items ≡ content.items) × (log.sure.value.items ≡ content.items) × (log.pending.items ≡ []) × AreSure logs contents
+    (log.content.items ≡ content.items) × (log.sure.value.items ≡ content.items)
+    × (log.pending.items ≡ []) × AreSure logs contents
 AreSure _ _ = ⊥
 
 -- bytes that a crash may leave of each log

@@ -24,14 +24,21 @@ may_read (change ∷ changes) sure = (redo change sure, may_redo change sure, ma
 
 reads_log : (log : Option MemoryLog) → LeavesOf log (content_of log)
 reads_log None = refl
-reads_log (Some log) = subst (λ (bytes : List ℕ). MayHold log.pending.items log.sure.value.items bytes) (sym log.redone) (may_read log.pending.items log.sure.value.items)
+reads_log (Some log) =
+    subst (λ (bytes : List ℕ). MayHold log.pending.items log.sure.value.items bytes)
+    (sym log.redone) (may_read log.pending.items log.sure.value.items)
 
 pub reads_now_of : (logs : List MemoryLog) → MayLeave logs (read_of logs)
 reads_now_of logs file = reads_log (slice_get logs file)
 
-pub only_now_of : (past : List (Snapshot (Vec MemoryLog Global))) (logs : List MemoryLog) (image : Image) → LeftSince past logs (length past) image → MayLeave logs image
+pub only_now_of : (past : List (Snapshot (Vec MemoryLog Global))) (logs : List MemoryLog) (image : Image)
+    → LeftSince past logs (length past) image → MayLeave logs image
 only_now_of past logs image left =
-    ⊎_elim (λ (now : MayLeave logs image). now) (λ (before : MightLeave (drop (length past) past) image). absurd (subst (λ (ps : List (Snapshot (Vec MemoryLog Global))). MightLeave ps image) (drop_of_length-le past {i = length past} (omega arith)) before)) left
+    ⊎_elim (λ (now : MayLeave logs image). now)
+    (λ (before : MightLeave (drop (length past) past) image).
+    absurd (subst (λ (ps : List (Snapshot (Vec MemoryLog Global))). MightLeave ps image)
+    (drop_of_length-le past {i = length past} (omega arith)) before)) left
 
-pub counts_now_of : (past : List (Snapshot (Vec MemoryLog Global))) (logs : List MemoryLog) (t : ℕ) (image : Image) → MayLeave logs image → LeftSince past logs t image
+pub counts_now_of : (past : List (Snapshot (Vec MemoryLog Global))) (logs : List MemoryLog) (t : ℕ) (image : Image)
+    → MayLeave logs image → LeftSince past logs t image
 counts_now_of past logs t image now = inl now

@@ -22,7 +22,10 @@ seated_clients seats returned =
 -- the stores of these seats, of which so many came back
 abbrev pub seated_stores : List StoreSeat → ℕ → Handed (Store MemoryDisk MemoryYard)
 seated_stores seats returned =
-    record { out = map (λ s. s.out.value) seats; back = map (λ s. option_map (λ b. b.value) s.back) (take returned seats) }
+    record {
+      out = map (λ s. s.out.value) seats;
+      back = map (λ s. option_map (λ b. b.value) s.back) (take returned seats);
+    }
 
 -- the directories of these seats
 abbrev pub seated_directories : List StoreSeat → List (List ℕ)

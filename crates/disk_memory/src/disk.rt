@@ -3,7 +3,7 @@ ghost use Rattle.std.specs.Prelude.{◌≡◌, ◌≤◌, ◌<◌, ◌^◌, Some
 ghost use Rattle.disk_model.specs.declared.disk.TheConstants.{LOG_COUNT};
 ghost use Rattle.disk_model.specs.Causes.{Rose};
 ghost use Rattle.disk_model.specs.Logs.{Image, ReadsAt, Settled};
-ghost use Rattle.disk_memory.specs.Held.{read_of, bytes_of, AreLeft, MayLeave, LeftSince};
+ghost use Rattle.disk_memory.specs.Held.{changes_of, read_of, bytes_of, AreLeft, MayLeave, LeftSince};
 ghost use Rattle.disk_memory.specs.Laws.{counts_now_of, only_now_of, reads_now_of};
 
 use crate::log::MemoryLog;
@@ -46,6 +46,7 @@ impl MemoryDisk {
     /// How many changes of a log its last sync doesn't make sure of.
     pub fn unsure(&self, file: u8) -> usize
         requires { file < LOG_COUNT }
+        ensures { result ≡ length (changes_of self.now.logs.logs.items file) }
     {
         self.logs.logs[file as usize].pending.len()
     }

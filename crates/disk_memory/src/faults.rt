@@ -1,7 +1,8 @@
 // The calls and the faults of one object.
-ghost use Rattle.std.specs.Prelude.{◌≡◌, ◌≤◌};
+ghost use Rattle.std.specs.Prelude.{◌≡◌, ◌≤◌, ◌+◌, ◌-◌, ◌^◌, ◌↔◌, IsTrue, min};
 ghost use Rattle.std.specs.Bool.{OnTrue, OnFalse};
 ghost use Rattle.disk_model.specs.Causes.{Rose};
+ghost use Rattle.disk_memory.specs.Plans.{IsVerdict};
 
 use crate::plan::{Plan, Verdict};
 use disk_model::Failed;
@@ -17,7 +18,9 @@ pub struct Faults {
 impl Faults {
     /// No call was made yet.
     pub fn new(plan: Plan) -> Self
-        ensures { result.count ≡ 0 }
+        ensures plan { result.plan ≡ plan }
+        ensures calls { result.calls ≡ 0 }
+        ensures none { result.count ≡ 0 }
     {
         Faults {
             plan,
@@ -28,6 +31,9 @@ impl Faults {
 
     /// Counts a call. A false answer has counted a fault.
     pub fn lets(&mut self) -> bool
+        ensures planned { IsTrue result ↔ IsVerdict self.old.plan self.old.calls Verdict.Goes }
+        ensures plan { self.new.plan ≡ self.old.plan }
+        ensures calls { self.new.calls ≡ min (self.old.calls + 1) (2 ^ 64 - 1) }
         ensures goes { OnTrue result (self.new.count ≡ self.old.count) }
         ensures fails { OnFalse result (Rose self.old.count self.new.count) }
         ensures later { self.old.count ≤ self.new.count }
@@ -45,6 +51,8 @@ impl Faults {
 
     /// Counts a fault.
     pub fn fail(&mut self) -> Failed
+        ensures plan { self.new.plan ≡ self.old.plan }
+        ensures calls { self.new.calls ≡ self.old.calls }
         ensures rose { Rose self.old.count self.new.count }
         ensures later { self.old.count ≤ self.new.count }
     {

@@ -1,5 +1,5 @@
 // One log in memory.
-ghost use Rattle.std.specs.Prelude.{◌≡◌, ◌≤◌, ◌<◌, ◌+◌, ◌^◌, take, drop, length, vec_len, OnOk, OnErr, IfOk, [], ◌∷◌, ◌++◌};
+ghost use Rattle.std.specs.Prelude.{◌≡◌, ◌≤◌, ◌+◌, ◌^◌, length, vec_len, OnOk, OnErr, IfOk, []};
 ghost use Rattle.disk_model.specs.Logs.{Torn, MayCut, Writes, Cuts};
 ghost use Rattle.disk_memory.specs.Changes.{redone, undone, IsWrite, MayBecome};
 
@@ -41,7 +41,8 @@ impl MemoryLog {
         requires end { place + length bytes.now ≤ 2 ^ 62 }
         ensures ok { OnOk result (Writes place bytes.now self.old.content.items self.new.content.items) }
         ensures err { OnErr result (self.new.content.items ≡ self.old.content.items) }
-        ensures crash { MayBecome (Torn place (length bytes.now)) self.old.pending.items self.old.sure.value.items self.new.pending.items self.new.sure.value.items }
+        ensures crash { MayBecome (Torn place (length bytes.now))
+            self.old.pending.items self.old.sure.value.items self.new.pending.items self.new.sure.value.items }
     {
         let place = place as usize;
         let change = written(alloc, &self.content, place, bytes)?;
@@ -54,7 +55,8 @@ impl MemoryLog {
     /// Keeps a write that failed: a crash may leave any part of it.
     pub fn miss_write(&mut self, alloc: Global, place: u64, bytes: &[u8]) -> Result<(), AllocError>
         ensures same { self.new.content.items ≡ self.old.content.items }
-        ensures crash { MayBecome (Torn place (length bytes.now)) self.old.pending.items self.old.sure.value.items self.new.pending.items self.new.sure.value.items }
+        ensures crash { MayBecome (Torn place (length bytes.now))
+            self.old.pending.items self.old.sure.value.items self.new.pending.items self.new.sure.value.items }
     {
         let bytes = bytes.to_vec(alloc)?;
         self.pending.reserve(1)?;
@@ -68,7 +70,8 @@ impl MemoryLog {
         requires { len ≤ vec_len self.old.content }
         ensures ok { OnOk result (Cuts len self.old.content.items self.new.content.items) }
         ensures err { OnErr result (self.new.content.items ≡ self.old.content.items) }
-        ensures crash { MayBecome (MayCut len) self.old.pending.items self.old.sure.value.items self.new.pending.items self.new.sure.value.items }
+        ensures crash { MayBecome (MayCut len)
+            self.old.pending.items self.old.sure.value.items self.new.pending.items self.new.sure.value.items }
     {
         let kept = len as usize;
         let lost = self.content[kept..].to_vec(alloc)?;
@@ -81,7 +84,8 @@ impl MemoryLog {
     /// Keeps a cut that failed: a crash may leave it done.
     pub fn miss_cut(&mut self, len: u64) -> Result<(), AllocError>
         ensures same { self.new.content.items ≡ self.old.content.items }
-        ensures crash { MayBecome (MayCut len) self.old.pending.items self.old.sure.value.items self.new.pending.items self.new.sure.value.items }
+        ensures crash { MayBecome (MayCut len)
+            self.old.pending.items self.old.sure.value.items self.new.pending.items self.new.sure.value.items }
     {
         self.pending.reserve(1)?;
         self.pending.push_reserved(Change::MissedCut { len });

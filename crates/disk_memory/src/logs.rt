@@ -1,9 +1,9 @@
 // The logs of a disk in memory, and what they were before each change.
 ghost use Rattle.std.specs.Prelude.{◌≡◌, ◌≤◌, ◌<◌, ◌+◌, ◌^◌, length, vec_len, OnOk, OnErr, IfOk, Some, ℕ};
-ghost use Rattle.disk_model.specs.Changes.{Any, OnlyAt};
+ghost use Rattle.disk_model.specs.Changes.{Any};
 ghost use Rattle.disk_model.specs.Logs.{Torn, MayCut, Writes, Cuts, Settled};
 ghost use Rattle.disk_model.specs.declared.disk.TheConstants.{LOG_COUNT};
-ghost use Rattle.disk_memory.specs.Held.{read_of, AreSure, MayLeave, Steps};
+ghost use Rattle.disk_memory.specs.Held.{read_of, AreSure, MayLeave, ReadBecomes, Steps};
 
 use crate::log::MemoryLog;
 use disk_model::LOG_COUNT;
@@ -41,9 +41,11 @@ impl MemoryLogs {
         requires file { file < LOG_COUNT }
         requires place { place ≤ length (read_of self.old.logs.items file) }
         requires end { place + length bytes.now ≤ 2 ^ 62 }
-        ensures ok { OnOk result (OnlyAt file (Writes place bytes.now) (read_of self.old.logs.items) (read_of self.new.logs.items)) }
-        ensures err { OnErr result (OnlyAt file (Torn place (length bytes.now)) (read_of self.old.logs.items) (read_of self.new.logs.items)) }
-        ensures steps { Steps file (Torn place (length bytes.now)) self.old.past.items self.old.logs.items self.new.past.items self.new.logs.items }
+        ensures ok { OnOk result (ReadBecomes file (Writes place bytes.now) self.old.logs.items self.new.logs.items) }
+        ensures err { OnErr result
+            (ReadBecomes file (Torn place (length bytes.now)) self.old.logs.items self.new.logs.items) }
+        ensures steps { Steps file (Torn place (length bytes.now))
+            self.old.past.items self.old.logs.items self.new.past.items self.new.logs.items }
     {
         self.past.push(Snapshot::of(&self.logs))?;
         self.logs[file as usize].write(self.alloc, place, bytes)
@@ -52,8 +54,9 @@ impl MemoryLogs {
     /// Keeps a write that failed: a crash may leave any part of it.
     pub fn miss_write(&mut self, file: u8, place: u64, bytes: &[u8]) -> Result<(), AllocError>
         requires { file < LOG_COUNT }
-        ensures err { OnlyAt file (Torn place (length bytes.now)) (read_of self.old.logs.items) (read_of self.new.logs.items) }
-        ensures steps { Steps file (Torn place (length bytes.now)) self.old.past.items self.old.logs.items self.new.past.items self.new.logs.items }
+        ensures err { ReadBecomes file (Torn place (length bytes.now)) self.old.logs.items self.new.logs.items }
+        ensures steps { Steps file (Torn place (length bytes.now))
+            self.old.past.items self.old.logs.items self.new.past.items self.new.logs.items }
     {
         self.past.push(Snapshot::of(&self.logs))?;
         self.logs[file as usize].miss_write(self.alloc, place, bytes)
@@ -63,9 +66,10 @@ impl MemoryLogs {
     pub fn cut(&mut self, file: u8, len: u64) -> Result<(), AllocError>
         requires file { file < LOG_COUNT }
         requires len { len ≤ length (read_of self.old.logs.items file) }
-        ensures ok { OnOk result (OnlyAt file (Cuts len) (read_of self.old.logs.items) (read_of self.new.logs.items)) }
-        ensures err { OnErr result (OnlyAt file (MayCut len) (read_of self.old.logs.items) (read_of self.new.logs.items)) }
-        ensures steps { Steps file (MayCut len) self.old.past.items self.old.logs.items self.new.past.items self.new.logs.items }
+        ensures ok { OnOk result (ReadBecomes file (Cuts len) self.old.logs.items self.new.logs.items) }
+        ensures err { OnErr result (ReadBecomes file (MayCut len) self.old.logs.items self.new.logs.items) }
+        ensures steps { Steps file (MayCut len)
+            self.old.past.items self.old.logs.items self.new.past.items self.new.logs.items }
     {
         self.past.push(Snapshot::of(&self.logs))?;
         self.logs[file as usize].cut(self.alloc, len)
@@ -74,8 +78,9 @@ impl MemoryLogs {
     /// Keeps a cut that failed: a crash may leave it done.
     pub fn miss_cut(&mut self, file: u8, len: u64) -> Result<(), AllocError>
         requires { file < LOG_COUNT }
-        ensures err { OnlyAt file (MayCut len) (read_of self.old.logs.items) (read_of self.new.logs.items) }
-        ensures steps { Steps file (MayCut len) self.old.past.items self.old.logs.items self.new.past.items self.new.logs.items }
+        ensures err { ReadBecomes file (MayCut len) self.old.logs.items self.new.logs.items }
+        ensures steps { Steps file (MayCut len)
+            self.old.past.items self.old.logs.items self.new.past.items self.new.logs.items }
     {
         self.past.push(Snapshot::of(&self.logs))?;
         self.logs[file as usize].miss_cut(len)
@@ -84,10 +89,12 @@ impl MemoryLogs {
     /// Makes sure of what is read of a log.
     pub fn sync(&mut self, file: u8) -> Result<(), AllocError>
         requires { file < LOG_COUNT }
-        ensures settled { OnOk result (Settled file (Some (read_of self.new.logs.items)) (MayLeave self.new.logs.items)) }
+        ensures settled { OnOk result
+            (Settled file (Some (read_of self.new.logs.items)) (MayLeave self.new.logs.items)) }
         ensures read { (other : ℕ) → read_of self.new.logs.items other ≡ read_of self.old.logs.items other }
         ensures err { OnErr result (self.new.logs.items ≡ self.old.logs.items) }
-        ensures steps { Steps file Any self.old.past.items self.old.logs.items self.new.past.items self.new.logs.items }
+        ensures steps { Steps file Any
+            self.old.past.items self.old.logs.items self.new.past.items self.new.logs.items }
     {
         self.past.push(Snapshot::of(&self.logs))?;
         self.logs[file as usize].sync();

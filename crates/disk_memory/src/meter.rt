@@ -1,4 +1,8 @@
 // A count of calls that a disk, a yard and its builds share.
+ghost use Rattle.std.specs.Prelude.{◌≡◌, ℕ, IfOk};
+ghost use Rattle.std.specs.Arc.{arc_value};
+ghost use Rattle.disk_memory.specs.Plans.{IsVerdict};
+
 use crate::plan::{Plan, Verdict};
 use std::alloc::{AllocError, Global};
 use std::sync::Arc;
@@ -18,7 +22,9 @@ pub struct Meter {
 
 impl Meter {
     /// Nothing was called yet.
-    pub fn new(alloc: Global, plan: Plan) -> Result<Self, AllocError> {
+    pub fn new(alloc: Global, plan: Plan) -> Result<Self, AllocError>
+        ensures { IfOk result (λ meter. (arc_value meter.calls).plan ≡ plan) }
+    {
         let calls = Arc::new(
             alloc,
             Calls {
@@ -30,7 +36,9 @@ impl Meter {
     }
 
     /// One that counts the same calls.
-    pub fn share(&self) -> Result<Self, AllocError> {
+    pub fn share(&self) -> Result<Self, AllocError>
+        ensures { IfOk result (λ meter. arc_value meter.calls ≡ arc_value self.now.calls) }
+    {
         let calls = Arc::try_clone(&self.calls)?;
         Ok(Meter { calls })
     }
@@ -41,7 +49,9 @@ impl Meter {
     }
 
     /// Counts a call, and says what is to become of it.
-    pub fn next(&self) -> Verdict {
+    pub fn next(&self) -> Verdict
+        ensures { (call : ℕ) × IsVerdict (arc_value self.now.calls).plan call result }
+    {
         let call = self.calls.made.fetch_add(1, Ordering::SeqCst);
         self.calls.plan.verdict(call)
     }

@@ -1,5 +1,6 @@
 // Which calls are to fail.
-ghost use Rattle.std.specs.Prelude.{◌≡◌, ◌≤◌, ◌<◌, ◌↔◌, IsTrue, IsSomeAnd, Contains, IsFalse};
+ghost use Rattle.std.specs.Prelude.{◌↔◌, IsTrue};
+ghost use Rattle.disk_memory.specs.Plans.{IsPast, IsListed, IsVerdict};
 
 /// What is to become of a call.
 #[derive(Clone, Copy, Debug, PartialEq, Eq)]
@@ -19,7 +20,7 @@ pub struct Plan {
 impl Plan {
     /// Whether the call comes after the stop.
     pub fn is_stopped(&self, call: u64) -> bool
-        ensures { IsTrue result ↔ IsSomeAnd self.now.stop (λ count. count ≤ call) }
+        ensures { IsTrue result ↔ IsPast self.now call }
     {
         match self.stop {
             Some(count) => count <= call,
@@ -29,16 +30,14 @@ impl Plan {
 
     /// Whether the call is to fail by itself.
     pub fn is_listed(&self, call: u64) -> bool
-        ensures { IsTrue result ↔ Contains self.now.failing.items call }
+        ensures { IsTrue result ↔ IsListed self.now call }
     {
         self.failing.contains(&call)
     }
 
     /// What is to become of a call. The stop counts before the list.
     pub fn verdict(&self, call: u64) -> Verdict
-        ensures stopped { result ≡ Verdict.Stopped ↔ IsSomeAnd self.now.stop (λ count. count ≤ call) }
-        ensures fails { result ≡ Verdict.Fails → Contains self.now.failing.items call }
-        ensures goes { result ≡ Verdict.Goes → Contains self.now.failing.items call → ⊥ }
+        ensures { IsVerdict self.now call result }
     {
         if self.is_stopped(call) {
             Verdict::Stopped

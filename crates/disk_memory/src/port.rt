@@ -1,4 +1,6 @@
 // A port in memory.
+ghost use Rattle.std.specs.Prelude.{◌≡◌};
+
 use crate::faults::Faults;
 use crate::file::MemoryFile;
 use crate::plan::Plan;
@@ -13,7 +15,12 @@ pub struct MemoryPort {
 
 impl MemoryPort {
     /// One that read nothing yet.
-    pub fn new(plan: Plan) -> Self {
+    pub fn new(plan: Plan) -> Self
+        ensures plan { result.faults.plan ≡ plan }
+        ensures calls { result.faults.calls ≡ 0 }
+        ensures reads { ⟦<MemoryPort as Port>⟧.reads result ≡ 0 }
+        ensures faults { ⟦<MemoryPort as Port>⟧.faults result ≡ 0 }
+    {
         MemoryPort {
             faults: Faults::new(plan),
             reads: 0,
