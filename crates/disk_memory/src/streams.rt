@@ -1,5 +1,8 @@
 // A source and a sink in memory.
-ghost use Rattle.std.specs.Prelude.{◌≡◌, ◌≤◌, ◌<◌, [], drop, length, vec_len, Some};
+ghost use Rattle.std.specs.Prelude.{◌≡◌, ◌≤◌, ◌<◌, [], drop, vec_len, Some, IfOk};
+ghost use Rattle.std.specs.Io.{ReadsAtMost};
+ghost use Rattle.std.specs.Io.KnownBytes.{ReadConsumes};
+ghost use Rattle.disk_model.specs.Causes.{HasCause};
 
 use crate::faults::Faults;
 use crate::plan::Plan;
@@ -22,6 +25,7 @@ impl MemorySource {
     pub fn new(bytes: Vec<u8>, piece: usize, plan: Plan) -> Self
         requires { 0 < piece }
         ensures left { ⟦<MemorySource as Source>⟧.left result ≡ Some bytes.items }
+        ensures piece { result.piece ≡ piece }
         ensures faults { ⟦<MemorySource as Source>⟧.faults result ≡ 0 }
     {
         MemorySource {
@@ -38,7 +42,15 @@ impl Source for MemorySource {
 
     ghost faults = { λ s. s.faults.count };
 
-    fn read(&mut self, out: &mut [u8]) -> Result<usize, Failed> {
+    // The trait's clauses, written out, and how much a read gives at most.
+    fn read(&mut self, out: &mut [u8]) -> Result<usize, Failed>
+        ensures bound { ReadsAtMost result out.new }
+        ensures bytes { ReadConsumes (Some (drop self.old.at self.old.bytes.items))
+            (Some (drop self.new.at self.new.bytes.items)) result out.new }
+        ensures piece { IfOk result (λ n. n ≤ self.old.piece) }
+        ensures same { self.new.piece ≡ self.old.piece }
+        ensures cause { HasCause self.old.faults.count self.new.faults.count result }
+    {
         if !self.faults.lets() {
             return Err(Failed);
         }
