@@ -90,6 +90,41 @@ fn a_torn_write_leaves_each_beginning(rt: HostRuntime) -> Result<(), Fail> {
     Ok(())
 }
 
+fn write_over(disk: &mut MemoryDisk, place: u64, bytes: &[u8; 6]) -> Result<(), Failed> {
+    let end = disk.len(0)?;
+    if place > end || end > 1_000_000 {
+        return Err(Failed);
+    }
+    disk.write_at(0, place, bytes)
+}
+
+#[test]
+fn a_torn_write_over_bytes_leaves_the_rest(rt: HostRuntime) -> Result<(), Fail> {
+    let alloc = rt.alloc();
+    let mut contents = blank_logs(alloc)?;
+    contents[0] = bytes_of(alloc, b"abcdef")?;
+    let mut disk = MemoryDisk::new(alloc, contents, Meter::new(alloc, smooth(alloc))?)?;
+    write_over(&mut disk, 3, b"uvwxyz")?;
+    for (count, want) in [
+        (0u64, "abcdef"),
+        (1, "abcuef"),
+        (2, "abcuvf"),
+        (3, "abcuvw"),
+        (4, "abcuvwx"),
+        (5, "abcuvwxy"),
+        (6, "abcuvwxyz"),
+    ] {
+        let counts = landed(alloc, &[count])?;
+        let mut left = disk.after_crash(alloc, &counts, Meter::new(alloc, smooth(alloc))?)?;
+        assert_eq!(rt;
+            content(alloc, &mut left)?.as_slice(),
+            want.as_bytes(),
+            "at {count}"
+        );
+    }
+    Ok(())
+}
+
 #[test]
 fn nothing_changes_after_the_stop(rt: HostRuntime) -> Result<(), Fail> {
     let alloc = rt.alloc();
