@@ -37,7 +37,8 @@ pub trait Disk: Send + Drop {
         ensures bound { IfOk result (λ n. n ≤ 2 ^ 62) }
         ensures seen { seen self.new ≡ seen self.old }
         ensures crash { (c : Image) → may_leave self.new c → may_leave self.old c }
-        ensures time { Elapses (moment self.old) (moment self.new) (left_since self.old) (left_since self.new) (may_leave self.new) }
+        ensures time { Elapses (moment self.old) (moment self.new)
+            (left_since self.old) (left_since self.new) (may_leave self.new) }
         ensures cause { HasCause (faults self.old) (faults self.new) result };
 
     /// Reads bytes of a log into `out`. A read may be short. 0 bytes into a buffer that isn't empty is the end.
@@ -48,7 +49,8 @@ pub trait Disk: Send + Drop {
         ensures bound { IfOk result (λ n. n ≤ length out.new) }
         ensures seen { seen self.new ≡ seen self.old }
         ensures crash { (c : Image) → may_leave self.new c → may_leave self.old c }
-        ensures time { Elapses (moment self.old) (moment self.new) (left_since self.old) (left_since self.new) (may_leave self.new) }
+        ensures time { Elapses (moment self.old) (moment self.new)
+            (left_since self.old) (left_since self.new) (may_leave self.new) }
         ensures cause { HasCause (faults self.old) (faults self.new) result };
 
     /// Writes over what is there, and past the end.
@@ -57,9 +59,12 @@ pub trait Disk: Send + Drop {
         requires place { IfSome (seen self.old) (λ image. place ≤ length (image file)) }
         requires end { place + length bytes.now ≤ 2 ^ 62 }
         ensures written { OnOk result (Becomes (OnlyAt file (Writes place bytes.now)) (seen self.old) (seen self.new)) }
-        ensures broken { OnErr result (Becomes (OnlyAt file (Torn place (length bytes.now))) (seen self.old) (seen self.new)) }
-        ensures crash { Follows (OnlyAt file (Torn place (length bytes.now))) (may_leave self.old) (may_leave self.new) }
-        ensures time { Elapses (moment self.old) (moment self.new) (left_since self.old) (left_since self.new) (may_leave self.new) }
+        ensures broken { OnErr result
+            (Becomes (OnlyAt file (Torn place (length bytes.now))) (seen self.old) (seen self.new)) }
+        ensures crash { Follows (OnlyAt file (Torn place (length bytes.now)))
+            (may_leave self.old) (may_leave self.new) }
+        ensures time { Elapses (moment self.old) (moment self.new)
+            (left_since self.old) (left_since self.new) (may_leave self.new) }
         ensures cause { HasCause (faults self.old) (faults self.new) result };
 
     /// Cuts a log to its first `len` bytes.
@@ -70,7 +75,8 @@ pub trait Disk: Send + Drop {
         ensures cut { OnOk result (Becomes (OnlyAt file (Cuts len)) (seen self.old) (seen self.new)) }
         ensures broken { OnErr result (Becomes (OnlyAt file (MayCut len)) (seen self.old) (seen self.new)) }
         ensures crash { Follows (OnlyAt file (MayCut len)) (may_leave self.old) (may_leave self.new) }
-        ensures time { Elapses (moment self.old) (moment self.new) (left_since self.old) (left_since self.new) (may_leave self.new) }
+        ensures time { Elapses (moment self.old) (moment self.new)
+            (left_since self.old) (left_since self.new) (may_leave self.new) }
         ensures cause { HasCause (faults self.old) (faults self.new) result };
 
     /// After it, a crash leaves of this log what a read gives.
@@ -80,7 +86,8 @@ pub trait Disk: Send + Drop {
         ensures others { OnOk result (Follows (OnlyAt file Any) (may_leave self.old) (may_leave self.new)) }
         ensures broken { OnErr result ((c : Image) → may_leave self.new c → may_leave self.old c) }
         ensures seen { seen self.new ≡ seen self.old }
-        ensures time { Elapses (moment self.old) (moment self.new) (left_since self.old) (left_since self.new) (may_leave self.new) }
+        ensures time { Elapses (moment self.old) (moment self.new)
+            (left_since self.old) (left_since self.new) (may_leave self.new) }
         ensures cause { HasCause (faults self.old) (faults self.new) result };
 
     /// How often the disk has failed. The count never falls, and stays at 2^64-1.

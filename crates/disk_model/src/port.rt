@@ -18,7 +18,8 @@ pub trait Port: Send + Drop {
     /// Fills `out` with the bytes of the file from the place on.
     fn read(&mut self, file: &Self::File, place: u64, out: &mut [u8]) -> Result<(), Failed>
         requires { place + length out.old ≤ Self.File.size file.now }
-        ensures bytes { OnOk result (IfSome (Self.File.bytes file.now) (λ content. out.new ≡ take (length out.old) (drop place content))) }
+        ensures bytes { OnOk result (IfSome (Self.File.bytes file.now)
+            (λ content. out.new ≡ take (length out.old) (drop place content))) }
         ensures rises { reads self.old ≤ reads self.new }
         ensures reads { reads self.new ≤ reads self.old + length out.old }
         ensures cause { HasCause (faults self.old) (faults self.new) result };

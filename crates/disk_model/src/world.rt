@@ -1,5 +1,5 @@
 // The world, which hands out stores, clients and ports, and takes stores and clients back.
-ghost use Rattle.std.specs.Prelude.{◌≡◌, ◌≢◌, ◌<◌, ◌++◌, ◌∷◌, [], List, ℕ, length, take, slice_get, MatchResult, MatchOption, IfOk, OnOk, IfSome, Option, Some, None, Ok, ◌⊎◌};
+ghost use Rattle.std.specs.Prelude.{◌≡◌, ◌≢◌, ◌<◌, ◌++◌, ◌∷◌, [], List, ℕ, length, take, slice_get, MatchResult, MatchOption, IfOk, OnOk, OnErr, IfSome, Option, Some, None, Ok, ◌⊎◌};
 ghost use Rattle.disk_model.specs.Causes.{HasCause};
 ghost use Rattle.disk_model.specs.Streams.{Adds};
 ghost use Rattle.disk_model.specs.Worlds.{Handed, HandsOut, Returns, directory_due, IsBlank};
@@ -65,9 +65,11 @@ pub trait World {
         ensures directory { MatchResult result
             (λ _. directories self.new ≡ directories self.old ++ dir.now ∷ [])
             (λ _. directories self.new ≡ directories self.old) }
-        ensures stood { IfOk result (λ store. IfSome (stands self.old dir.now) (λ found. IfSome found (λ stood. store ≡ stood))) }
+        ensures stood { IfOk result (λ store. IfSome (stands self.old dir.now)
+            (λ found. IfSome found (λ stood. store ≡ stood))) }
         ensures blank { IfOk result (λ store. stands self.old dir.now ≡ Some None
             → IsBlank (Self.Disk.seen store.disk) (Self.Disk.may_leave store.disk) (Self.Yard.holds store.yard)) }
+        ensures kept { OnErr result (stands self.new ≡ stands self.old) }
         ensures others { (other : List ℕ) → other ≢ dir.now → stands self.new other ≡ stands self.old other }
         ensures clients { clients self.new ≡ clients self.old }
         ensures printed { printed self.new ≡ printed self.old }

@@ -58,8 +58,10 @@ pub trait Build: Send + Drop {
     /// Seals what was appended. The file counts as held by the yard once it is admitted there.
     fn seal(&mut self) -> Result<Self::File, Failed>
         ensures bytes { IfOk result (λ file. Self.File.bytes file ≡ given self.old) }
-        ensures name { IfOk result (λ file. (Self.File.number file ≡ number self.old) × (Self.File.mark file ≡ mark self.old)) }
-        ensures same { (number self.new ≡ number self.old) × (mark self.new ≡ mark self.old) × (given self.new ≡ given self.old) }
+        ensures name { IfOk result
+            (λ file. (Self.File.number file ≡ number self.old) × (Self.File.mark file ≡ mark self.old)) }
+        ensures same { (number self.new ≡ number self.old) × (mark self.new ≡ mark self.old)
+            × (given self.new ≡ given self.old) }
         ensures cause { HasCause (faults self.old) (faults self.new) result };
 
     /// How often the build has failed. The count never falls, and stays at 2^64-1.
@@ -82,7 +84,8 @@ pub trait Yard: Send + Drop {
     /// Begins a build, which replaces what the number has and gives it a mark.
     /// Where it fails, the number has what it had, or nothing.
     fn fresh(&mut self, number: u64) -> Result<Self::Build, Failed>
-        ensures begun { IfOk result (λ build. Becomes (OnlyAt number (Begins (Self.Build.mark build))) (holds self.old) (holds self.new)) }
+        ensures begun { IfOk result (λ build.
+            Becomes (OnlyAt number (Begins (Self.Build.mark build))) (holds self.old) (holds self.new)) }
         ensures name { IfOk result (λ build. Self.Build.number build ≡ number) }
         ensures empty { IfOk result (λ build. IfSome (holds self.old) (λ _. Self.Build.given build ≡ Some [])) }
         ensures broken { OnErr result (Becomes (OnlyAt number MayLose) (holds self.old) (holds self.new)) }
@@ -91,8 +94,10 @@ pub trait Yard: Send + Drop {
     /// The sealed file of a number. None exactly where it holds none.
     fn open(&mut self, number: u64) -> Result<Option<Self::File>, Failed>
         ensures found { IfOk result (λ found. IfSome found (λ file. Self.File.number file ≡ number)) }
-        ensures none { IfOk result (λ found. IfSome (holds self.old) (λ slots. IsNone found ↔ ((slots number).sealed ≡ None))) }
-        ensures bytes { IfOk result (λ found. IfSome found (λ file. IfSome (holds self.old) (λ slots. Self.File.bytes file ≡ (slots number).sealed))) }
+        ensures none { IfOk result (λ found. IfSome (holds self.old)
+            (λ slots. IsNone found ↔ ((slots number).sealed ≡ None))) }
+        ensures bytes { IfOk result (λ found. IfSome found (λ file. IfSome (holds self.old)
+            (λ slots. Self.File.bytes file ≡ (slots number).sealed))) }
         ensures same { holds self.new ≡ holds self.old }
         ensures cause { HasCause (faults self.old) (faults self.new) result };
 
@@ -105,8 +110,10 @@ pub trait Yard: Send + Drop {
 
     /// From here on the number holds the file. It takes no memory and can't fail.
     fn admit(&mut self, file: &Self::File)
-        requires { IfSome (holds self.old) (λ slots. (slots (Self.File.number file.now)).mark ≡ Some (Self.File.mark file.now)) }
-        ensures held { Becomes (OnlyAt (Self.File.number file.now) (Admits (Self.File.bytes file.now))) (holds self.old) (holds self.new) }
+        requires { IfSome (holds self.old)
+            (λ slots. (slots (Self.File.number file.now)).mark ≡ Some (Self.File.mark file.now)) }
+        ensures held { Becomes (OnlyAt (Self.File.number file.now) (Admits (Self.File.bytes file.now)))
+            (holds self.old) (holds self.new) }
         ensures count { faults self.new ≡ faults self.old };
 
     /// How often the yard has failed. The count never falls, and stays at 2^64-1.
