@@ -1,7 +1,6 @@
 -- Reading from left to right, as far as the first field that doesn't fit.
 use Rattle.std.specs.Prelude.{ℕ, zero, suc, ℤ, ◌-◌, ◌^◌, Bool, true, false, ◌&&◌, not, nat_lt, nat_le, ◌==◌, List}
-use Rattle.std.specs.Prelude.{[], ◌∷◌}
-use Rattle.std.specs.Prelude.{◌++◌, map, length, take, drop, Result, Ok, Err, if◌then◌else◌}
+use Rattle.std.specs.Prelude.{[], ◌∷◌, ◌++◌, map, length, take, drop, Result, Ok, Err, if◌then◌else◌}
 use Rattle.std.specs.Cmp.Lexicographic.{slice_cmp}
 use Rattle.std.specs.Int.{w128, cast_signed}
 use Rattle.std.specs.Ordering.{nat_cmp, is_lt}

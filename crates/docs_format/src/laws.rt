@@ -11,8 +11,8 @@ pub fn more_is_too_many()
     ensures { MoreIsTooMany }
 {}
 
-/// A fault before the end of the bytes is there with any bytes behind them. At place 0 a document may be too large,
-/// which more bytes hide.
+/// A fault between the first byte and the end of the bytes stays where it is with any bytes behind. One at the first
+/// byte needn't: bytes that go on behind a document that is too large are refused where they go on.
 pub fn faults_stay()
     ensures { FaultsStay }
 {}
