@@ -13,34 +13,42 @@ Change = List ℕ → List ℕ → Type 0
 abbrev pub OneLog : ℕ → Outcomes → Outcomes
 OneLog file old c = (d : Image) × old d × OnlyAt {A = List ℕ} file Any d c
 
-pub becomes_any : (file : ℕ) (change : Change) (old new : Option Image) → Becomes (OnlyAt file change) old new → Becomes (OnlyAt file Any) old new
+pub becomes_any : (file : ℕ) (change : Change) (old new : Option Image) → Becomes (OnlyAt file change) old new →
+    Becomes (OnlyAt file Any) old new
 becomes_any file change None new is = is
 becomes_any file change (Some image) None is = is
 becomes_any file change (Some image) (Some other) is = record { here = tt; others = is.others }
 
-pub becomes_any_then : (file : ℕ) (old mid new : Option Image) → Becomes (OnlyAt file Any) old mid → Becomes (OnlyAt file Any) mid new → Becomes (OnlyAt file Any) old new
+pub becomes_any_then : (file : ℕ) (old mid new : Option Image) → Becomes (OnlyAt file Any) old mid → Becomes
+    (OnlyAt file Any) mid new → Becomes (OnlyAt file Any) old new
 becomes_any_then file None None new is next = next
 becomes_any_then file None (Some b) new is next = absurd (cc)
 becomes_any_then file (Some a) None new is next = absurd is
 becomes_any_then file (Some a) (Some b) None is next = next
-becomes_any_then file (Some a) (Some b) (Some c) is next = record { here = tt; others = λ other apart. next.others other apart ∙ is.others other apart }
+becomes_any_then file (Some a) (Some b) (Some c) is next = record
+    { here = tt; others = λ other apart. next.others other apart ∙ is.others other apart }
 
-pub told_after : (file : ℕ) (change : Change) (old new : Option Image) → Becomes (OnlyAt file change) old new → IsSome old → IsSome new
+pub told_after : (file : ℕ) (change : Change) (old new : Option Image) → Becomes (OnlyAt file change) old new →
+    IsSome old → IsSome new
 told_after file change None new is told = absurd (cc)
 told_after file change (Some a) None is told = absurd is
 told_after file change (Some a) (Some b) is told = refl
 
 -- what a change makes of a log
-pub becomes_so : (file : ℕ) (change : Change) (P Q : List ℕ → Type 0) (old new : Option Image) → ((a b : List ℕ) → change a b → P a → Q b)
+pub becomes_so : (file : ℕ) (change : Change) (P Q : List ℕ → Type 0) (old new : Option Image) →
+    ((a b : List ℕ) → change a b → P a → Q b)
     → Becomes (OnlyAt file change) old new → IfSome old (λ image. P (image file)) → IfSome new (λ image. Q (image file))
 becomes_so file change P Q None None makes is has = tt
 becomes_so file change P Q None (Some b) makes is has = absurd (cc)
 becomes_so file change P Q (Some a) None makes is has = absurd is
 becomes_so file change P Q (Some a) (Some b) makes is has = makes (a file) (b file) is.here has
 
-pub reaches : (file m n : ℕ) (change : Change) (old new : Option Image) → ((a b : List ℕ) → change a b → m ≤ length a → n ≤ length b)
-    → Becomes (OnlyAt file change) old new → IfSome old (λ image. m ≤ length (image file)) → IfSome new (λ image. n ≤ length (image file))
-reaches file m n change old new keeps is long = becomes_so file change (λ a. m ≤ length a) (λ b. n ≤ length b) old new keeps is long
+pub reaches : (file m n : ℕ) (change : Change) (old new : Option Image) →
+    ((a b : List ℕ) → change a b → m ≤ length a → n ≤ length b)
+    → Becomes (OnlyAt file change) old new → IfSome old (λ image. m ≤ length (image file)) → IfSome new
+    (λ image. n ≤ length (image file))
+reaches file m n change old new keeps is long = becomes_so file change (λ a. m ≤ length a) (λ b. n ≤ length b) old
+    new keeps is long
 
 module _ (file : ℕ) (change : Change) (old mid : Outcomes) (follows : Follows (OnlyAt file change) old mid) where
   pub one_log : (c : Image) → mid c → OneLog file old c
@@ -60,7 +68,8 @@ pub one_log_same : (file : ℕ) (old : Outcomes) (c : Image) → old c → OneLo
 one_log_same file old c was = (c, was, record { here = tt; others = λ other apart. refl })
 
 -- where a sync is done, each image has the change as it was done
-pub settled_change : (file : ℕ) (done may : Change) (seen after : Option Image) (old new : Outcomes) → IsSome seen → IfSome seen old
+pub settled_change : (file : ℕ) (done may : Change) (seen after : Option Image) (old new : Outcomes) → IsSome seen →
+    IfSome seen old
     → Becomes (OnlyAt file done) seen after → Settled file after new → ((a b : List ℕ) → done a b → may a b)
     → (c : Image) → new c → Changed old file may c
 settled_change file done may None after old new told reads is settled lets c left = absurd (cc)
@@ -69,21 +78,26 @@ settled_change file done may (Some image) (Some then) old new told reads is sett
     (image, reads, rw (settled c left) (lets (image file) (then file) is.here))
 
 -- nothing but one log changed, over two stretches
-pub spares_more : {D : Type 0} (seen : D → Option Image) (may_leave : D → Outcomes) (moment : D → ℕ) (left_since : D → ℕ → Outcomes)
+pub spares_more : {D : Type 0} (seen : D → Option Image) (may_leave : D → Outcomes) (moment : D → ℕ)
+    (left_since : D → ℕ → Outcomes)
     (file : ℕ) (old mid new : D) → ((t : ℕ) (c : Image) → t ≤ moment mid → may_leave mid c → left_since mid t c)
-    → SparesOthers seen may_leave moment left_since file old mid → SparesOthers seen may_leave moment left_since file mid new
+    → SparesOthers seen may_leave moment left_since file old mid → SparesOthers seen may_leave moment left_since file
+    mid new
     → SparesOthers seen may_leave moment left_since file old new
 spares_more seen may_leave moment left_since file old mid new counts first second = record {
   reads = becomes_any_then file (seen old) (seen mid) (seen new) first.reads second.reads;
-  images = throughout_then _ _ _ _ _ _ _ first.images (throughout_weaker _ _ _ _ (OneLog file (may_leave mid)) (OneLog file (may_leave old)) second.images (λ c from.
+  images = throughout_then _ _ _ _ _ _ _ first.images (throughout_weaker _ _ _ _ (OneLog file (may_leave mid))
+      (OneLog file (may_leave old)) second.images (λ c from.
       let (d, was, at) = from in
       let (e, before, then) = first.images.each d (counts (moment old) d first.images.later was) in
       (e, before, record { here = tt; others = λ other apart. at.others other apart ∙ then.others other apart })));
 }
 
 -- each image that is a change of one that has A has B
-pub each_changed : (before now : ℕ) (past since : ℕ → Outcomes) (old : Outcomes) (file : ℕ) (change : Change) (A B : List ℕ → Type 0)
+pub each_changed : (before now : ℕ) (past since : ℕ → Outcomes) (old : Outcomes) (file : ℕ) (change : Change)
+    (A B : List ℕ → Type 0)
     → Throughout before now past since (Changed old file change) → ((d : Image) → old d → A (d file))
     → ((a b : List ℕ) → A a → change a b → B b) → Throughout before now past since (λ c. B (c file))
-each_changed before now past since old file change A B all has makes = throughout_weaker before now past since (Changed old file change) (λ c. B (c file)) all
+each_changed before now past since old file change A B all has makes = throughout_weaker before now past since
+    (Changed old file change) (λ c. B (c file)) all
     (λ c from. let (d, was, is) = from in makes (d file) (c file) (has d was) is)

@@ -6,3 +6,4 @@ pub mod ReadLemmas
 pub mod FrameLemmas
 pub mod ScanLemmas
 pub mod OneLemmas
+pub mod OtherLemmas

@@ -11,40 +11,53 @@ pub if_some : {A : Type 0} {P Q : A → Type 0} (o : Option A) → IfSome o P �
 if_some None is then = tt
 if_some (Some x) is then = then x is
 
-pub if_some_both : {A : Type 0} {P Q R : A → Type 0} (o : Option A) → IfSome o P → IfSome o Q → ((x : A) → P x → Q x → R x) → IfSome o R
+pub if_some_both : {A : Type 0} {P Q R : A → Type 0} (o : Option A) → IfSome o P → IfSome o Q →
+    ((x : A) → P x → Q x → R x) → IfSome o R
 if_some_both None is also then = tt
 if_some_both (Some x) is also then = then x is also
+
+pub if_some_three : {A : Type 0} {P Q R S : A → Type 0} (o : Option A) → IfSome o P → IfSome o Q → IfSome o R
+    → ((x : A) → P x → Q x → R x → S x) → IfSome o S
+if_some_three None is also besides then = tt
+if_some_three (Some x) is also besides then = then x is also besides
 
 pub if_some_all : {A : Type 0} {Q : A → Type 0} (o : Option A) → ((x : A) → Q x) → IfSome o Q
 if_some_all None then = tt
 if_some_all (Some x) then = then x
 
 pub take_two : (a b : ℕ) (l : List ℕ) → take (a + b) l ≡ take a l ++ take b (drop a l)
-take_two a b l = sym (take-append-drop a (take (a + b) l)) ∙ ap (λ (x : List ℕ). x ++ drop a (take (a + b) l)) (take-take a (a + b) l (omega arith)) ∙ ap (λ (x : List ℕ). take a l ++ x) (drop-take a b l)
+take_two a b l = sym (take-append-drop a (take (a + b) l)) ∙ ap (λ (x : List ℕ). x ++ drop a (take (a + b) l))
+    (take-take a (a + b) l (omega arith)) ∙ ap (λ (x : List ℕ). take a l ++ x) (drop-take a b l)
 
 pub read_on : (bytes : List ℕ) (place done count : ℕ) (out tail rest : List ℕ) → done ≤ length out → count ≤ length tail
-    → take count tail ≡ take count (drop (place + done) bytes) → IsRead bytes place done out → IsRead bytes place (done + count) (take done out ++ (tail ++ rest))
+    → take count tail ≡ take count (drop (place + done) bytes) → IsRead bytes place done out → IsRead bytes place
+    (done + count) (take done out ++ (tail ++ rest))
 read_on bytes place done count out tail rest fits whole next is =
     let long : length (take done out) ≡ done = length-take-le done out fits in
     ap (λ (n : ℕ). take (n + count) (take done out ++ (tail ++ rest))) (sym long)
     ∙ take-append-add (take done out) (tail ++ rest) count
-    ∙ ap (λ (x : List ℕ). take done out ++ x) (take-append-le count tail rest whole ∙ next ∙ ap (λ (x : List ℕ). take count x) (sym (drop-drop done place bytes)))
+    ∙ ap (λ (x : List ℕ). take done out ++ x) (take-append-le count tail rest whole ∙ next ∙ ap
+    (λ (x : List ℕ). take count x) (sym (drop-drop done place bytes)))
     ∙ ap (λ (x : List ℕ). x ++ take count (drop done (drop place bytes))) is
     ∙ sym (take_two done count (drop place bytes))
 
-module _ {D : Type 0} (seen : D → Option Image) (may_leave : D → Outcomes) (moment : D → ℕ) (left_since : D → ℕ → Outcomes) where
-  pub only_read_same : (disk : D) → ((c : Image) → left_since disk (moment disk) c → may_leave disk c) → OnlyRead seen may_leave moment left_since disk disk
+module _ {D : Type 0} (seen : D → Option Image) (may_leave : D → Outcomes) (moment : D → ℕ)
+    (left_since : D → ℕ → Outcomes) where
+  pub only_read_same : (disk : D) → ((c : Image) → left_since disk (moment disk) c → may_leave disk c) → OnlyRead
+      seen may_leave moment left_since disk disk
   only_read_same disk only = record {
     same = refl;
     fewer = λ c left. left;
     images = record { later = omega arith; each = only; earlier = λ t c le left. inl left };
   }
 
-  pub only_read_more : (old mid new : D) → OnlyRead seen may_leave moment left_since old mid → OnlyRead seen may_leave moment left_since mid new → OnlyRead seen may_leave moment left_since old new
+  pub only_read_more : (old mid new : D) → OnlyRead seen may_leave moment left_since old mid → OnlyRead seen
+      may_leave moment left_since mid new → OnlyRead seen may_leave moment left_since old new
   only_read_more old mid new first second = record {
     same = second.same ∙ first.same;
     fewer = λ c left. first.fewer c (second.fewer c left);
-    images = throughout_then _ _ _ _ _ _ _ first.images (throughout_weaker _ _ _ _ (may_leave mid) (may_leave old) second.images first.fewer);
+    images = throughout_then _ _ _ _ _ _ _ first.images (throughout_weaker _ _ _ _ (may_leave mid) (may_leave old)
+        second.images first.fewer);
   }
 
   -- how far a read has come

@@ -1,10 +1,15 @@
 -- How far a scan has come.
-use Rattle.std.proofs.Common.{◌≡◌, ◌≤◌, ◌<◌, ◌^◌, ◌+◌, ◌∙◌, refl, sym, ap, ℕ, List, [], ◌∷◌, ◌++◌, length, drop, Option, Some, None, IsSome, IfSome, arith}
+use Rattle.std.proofs.Common.{◌≡◌, ◌≤◌, ◌<◌, ◌^◌, ◌+◌, ◌∙◌, refl, sym, ap, inr, ℕ, List, [], ◌∷◌, ◌++◌, length, drop, Option, Some, None, IsSome, IfSome, Result, Ok, Err, Vec, arith}
+use Rattle.std.specs.Prelude.{IsErrAnd}
+use Rattle.std.specs.declared.alloc.Global.{Global}
 use Rattle.std.proofs.lemmas.List.{drop-drop, drop_at}
 use Rattle.disk_model.specs.Logs.{Image, Outcomes, Settled}
 use Rattle.frame_log.specs.Frames.{framed, open_frame, HasFrames}
 use Rattle.frame_log.specs.Standing.{OnlyRead}
-use Rattle.frame_log.specs.Scanned.{EndsAt, BeginsWith}
+use Rattle.frame_log.specs.Scanned.{EndsAt, BeginsWith, NotNext, NotScanned, Scans}
+use Rattle.frame_log.specs.declared.log.Log.{Log}
+use Rattle.frame_log.specs.declared.refusal.ScanRefusal.{ScanRefusal}
+use Rattle.frame_log.specs.declared.refusal.ScanRefusal.TheVariants.{Fault, Damaged, Memory}
 use Rattle.frame_log.proofs.Bytes.{framed-push, length-sized}
 
 -- these frames were read, and the next gate stands here
@@ -12,7 +17,8 @@ pub record IsSeen (bodies : List (List ℕ)) (end len : ℕ) (bytes : List ℕ) 
   pub all : len ≡ length bytes
   pub front : bytes ≡ framed bodies ++ drop end bytes
 
-pub record IsScanned {D : Type 0} (seen : D → Option Image) (may_leave : D → Outcomes) (moment : D → ℕ) (left_since : D → ℕ → Outcomes)
+pub record IsScanned {D : Type 0} (seen : D → Option Image) (may_leave : D → Outcomes) (moment : D → ℕ)
+    (left_since : D → ℕ → Outcomes)
     (faults : D → ℕ) (first now : D) (file len end : ℕ) (bodies : List (List ℕ)) : Type 0 where
   pub read : OnlyRead seen may_leave moment left_since first now
   pub later : faults first ≤ faults now
@@ -24,7 +30,8 @@ pub record IsScanned {D : Type 0} (seen : D → Option Image) (may_leave : D →
 pub seen_first : (bytes : List ℕ) (len : ℕ) → len ≡ length bytes → IsSeen [] 0 len bytes
 seen_first bytes len all = record { all = all; front = refl }
 
-pub seen_more : (bodies : List (List ℕ)) (end next len : ℕ) (bytes body : List ℕ) → end ≡ length (framed bodies) → next ≡ end + 9 + length body → IsSeen bodies end len bytes
+pub seen_more : (bodies : List (List ℕ)) (end next len : ℕ) (bytes body : List ℕ) → end ≡ length (framed bodies) →
+    next ≡ end + 9 + length body → IsSeen bodies end len bytes
     → BeginsWith body (drop end bytes) → IsSeen (bodies ++ body ∷ []) next len bytes
 seen_more bodies end next len bytes body at_end is seen begins =
     let long : length (open_frame body) ≡ 9 + length body = omega (arith, length-sized body) in
@@ -35,10 +42,12 @@ seen_more bodies end next len bytes body at_end is seen begins =
     ∙ drop_at (open_frame body) begins.behind (length (open_frame body)) refl in
     record {
       all = seen.all;
-      front = seen.front ∙ ap (λ (l : List ℕ). framed bodies ++ l) begins.whole ∙ sym (framed-push bodies body begins.behind) ∙ ap (λ (l : List ℕ). framed (bodies ++ body ∷ []) ++ l) (sym rest);
+      front = seen.front ∙ ap (λ (l : List ℕ). framed bodies ++ l) begins.whole ∙ sym
+          (framed-push bodies body begins.behind) ∙ ap (λ (l : List ℕ). framed (bodies ++ body ∷ []) ++ l) (sym rest);
     }
 
-pub seen_whole : (bodies : List (List ℕ)) (end len : ℕ) (bytes : List ℕ) → len ≤ 2 ^ 62 → IsSeen bodies end len bytes → EndsAt (drop end bytes) → HasFrames bodies bytes
+pub seen_whole : (bodies : List (List ℕ)) (end len : ℕ) (bytes : List ℕ) → len ≤ 2 ^ 62 → IsSeen bodies end len bytes
+    → EndsAt (drop end bytes) → HasFrames bodies bytes
 seen_whole bodies end len bytes short seen ends = record {
   gate = ends.gate;
   behind = ends.behind;
@@ -47,8 +56,32 @@ seen_whole bodies end len bytes short seen ends = record {
   short = omega (arith, seen.all, short);
 }
 
+-- why a gate wasn't read is why the log wasn't
+pub not_scanned : (bodies : List (List ℕ)) (end len : ℕ) (bytes : List ℕ) (refusal : ScanRefusal) → end ≡ length
+    (framed bodies) → end < len → len ≤ 2 ^ 62
+    → IsSeen bodies end len bytes → NotNext end (drop end bytes) refusal → NotScanned bytes refusal
+not_scanned bodies end len bytes Fault at_end inside short seen why = tt
+not_scanned bodies end len bytes (Damaged place) at_end inside short seen (at, breaks) = inr (inr (record {
+  bodies = bodies;
+  behind = breaks.behind;
+  whole = seen.front ∙ ap (λ (l : List ℕ). framed bodies ++ l) breaks.whole;
+  place = at ∙ at_end;
+  broken = breaks.broken;
+  early = omega (arith, at, inside, short);
+}))
+not_scanned bodies end len bytes Memory at_end inside short seen why = tt
+
+-- a refusal of a scan
+pub scans_err : {Q : ScanRefusal → Type 0} (seen : Option Image) (file : ℕ)
+    (result : Result (Log × Vec (Vec ℕ Global) Global) ScanRefusal)
+    → IsErrAnd result Q → ((e : ScanRefusal) → Q e → IfSome seen (λ image. NotScanned (image file) e)) → IfSome seen
+    (λ image. Scans (image file) result)
+scans_err seen file (Ok found) is then = absurd is
+scans_err seen file (Err e) is then = then e is
+
 -- where each image has what is read, each has the frames
-pub settled_frames : (seen : Option Image) (may_leave : Outcomes) (file : ℕ) (bodies : List (List ℕ)) → IsSome seen → IfSome seen (λ image. HasFrames bodies (image file))
+pub settled_frames : (seen : Option Image) (may_leave : Outcomes) (file : ℕ) (bodies : List (List ℕ)) → IsSome seen →
+    IfSome seen (λ image. HasFrames bodies (image file))
     → Settled file seen may_leave → (c : Image) → may_leave c → HasFrames bodies (c file)
 settled_frames None may_leave file bodies told has settled c left = absurd (cc)
 settled_frames (Some image) may_leave file bodies told has settled c left = rw (settled c left) has

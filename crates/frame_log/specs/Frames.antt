@@ -49,10 +49,17 @@ pub record IsBroken (at : ℕ) (bytes : List ℕ) : Type 0 where
   pub whole : bytes ≡ framed bodies ++ OPEN ∷ behind
   pub place : at ≡ length (framed bodies)
   pub broken : BeginsWhole behind → ⊥
+  pub early : at < 2 ^ 62
+
+-- no gate up to there is broken, but there are more than 2^62 bytes
+pub record IsTooLong (at : ℕ) (bytes : List ℕ) : Type 0 where
+  pub place : at ≡ 2 ^ 62
+  pub long : 2 ^ 62 < length bytes
+  pub unbroken : (earlier : ℕ) → IsBroken earlier bytes → ⊥
 
 -- the bytes aren't a log, which shows at this place
 abbrev pub IsDamaged : ℕ → List ℕ → Type 0
-IsDamaged place bytes = ((bytes ≡ []) × (place ≡ 0)) ⊎ (((2 ^ 62 < length bytes) × (place ≡ 2 ^ 62)) ⊎ IsBroken place bytes)
+IsDamaged place bytes = ((bytes ≡ []) × (place ≡ 0)) ⊎ (IsTooLong place bytes ⊎ IsBroken place bytes)
 
 -- what the bytes are: the bodies between open gates, or a damage with its place
 abbrev pub Frames : List ℕ → Result (List (List ℕ)) ℕ → Type 0

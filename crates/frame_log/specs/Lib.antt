@@ -1,4 +1,5 @@
 pub mod Frames
 pub mod Standing
+pub mod Calls
 pub mod Scanned
 pub mod Laws

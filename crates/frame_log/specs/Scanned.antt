@@ -1,7 +1,11 @@
 -- What a scan of a log finds.
-use Rattle.std.specs.Prelude.{◌≡◌, ◌≢◌, ℕ, ◌<◌, List, ◌∷◌, ◌++◌, length, take, drop, map, Option, Some, None, Vec, ⊤}
+use Rattle.std.specs.Prelude.{◌≡◌, ◌≢◌, ℕ, ◌<◌, List, ◌∷◌, ◌++◌, length, take, drop, map, Bool, true, false, Option, Some, None, IsSome, Result, Ok, Err, MatchResult, Vec, ⊤}
+use Rattle.std.specs.Int.{w64, to_be_bytes}
 use Rattle.std.specs.declared.alloc.Global.{Global}
-use Rattle.frame_log.specs.Frames.{open_frame, BeginsWhole, IsDamaged}
+use Rattle.disk_model.specs.Logs.{Image, Outcomes, Settled}
+use Rattle.frame_log.specs.Frames.{open_frame, framed, BeginsWhole, Frames}
+use Rattle.frame_log.specs.Standing.{file_of, end_of, IsUp, IsWithin, Holds}
+use Rattle.frame_log.specs.declared.log.Log.{Log}
 use Rattle.frame_log.specs.declared.frame.TheConstants.{OPEN}
 use Rattle.frame_log.specs.declared.refusal.ScanRefusal.{ScanRefusal}
 use Rattle.frame_log.specs.declared.refusal.ScanRefusal.TheVariants.{Fault, Damaged, Memory}
@@ -20,6 +24,16 @@ pub record EndsAt (rest : List ℕ) : Type 0 where
   pub behind : List ℕ
   pub whole : rest ≡ gate ∷ behind
   pub closed : gate ≢ OPEN
+
+-- an open gate, or a closed one
+abbrev pub IsGate : List ℕ → Bool → Type 0
+IsGate rest true = rest ≡ OPEN ∷ drop 1 rest
+IsGate rest false = EndsAt rest
+
+-- an open gate, and a body of so many bytes is to follow
+pub record HasSize (rest : List ℕ) (size : ℕ) : Type 0 where
+  pub opens : rest ≡ OPEN ∷ drop 1 rest
+  pub spelled : take 8 (drop 1 rest) ≡ to_be_bytes w64 size
 
 -- a frame, and its next gate
 pub record BeginsWith (body rest : List ℕ) : Type 0 where
@@ -47,5 +61,18 @@ NotNext place rest Memory = ⊤
 -- why a log wasn't read
 abbrev pub NotScanned : List ℕ → ScanRefusal → Type 0
 NotScanned bytes Fault = ⊤
-NotScanned bytes (Damaged place) = IsDamaged place bytes
+NotScanned bytes (Damaged place) = Frames bytes (Err place)
 NotScanned bytes Memory = ⊤
+
+-- a scan of these bytes answers what they are, unless the disk fails or memory runs out
+abbrev pub Scans : List ℕ → Result (Log × Vec (Vec ℕ Global) Global) ScanRefusal → Type 0
+Scans bytes result = MatchResult result (λ found. Frames bytes (Ok (bodies_of found.1))) (NotScanned bytes)
+
+-- a log that was scanned: it ends behind these frames, and has them for sure where each image has what was read
+pub record Opens {D : Type 0} (seen : D → Option Image) (may_leave : D → Outcomes) (file : ℕ) (old new : D)
+    (log : Log) (bodies : List (List ℕ)) : Type 0 where
+  pub of_file : file_of log ≡ file
+  pub up : IsUp log
+  pub place : end_of log ≡ length (framed bodies)
+  pub within : IsWithin log (seen new)
+  pub holds : IsSome (seen old) → Settled file (seen old) (may_leave old) → Holds seen may_leave log new bodies

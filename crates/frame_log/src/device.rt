@@ -4,8 +4,7 @@ ghost use Rattle.disk_model.specs.declared.disk.TheConstants.{LOG_COUNT};
 ghost use Rattle.disk_model.specs.Causes.{HasCause};
 ghost use Rattle.disk_model.specs.Changes.{OnlyAt, Becomes};
 ghost use Rattle.disk_model.specs.Logs.{Image, Writes, Cuts, Torn, MayCut, Settled};
-ghost use Rattle.disk_model.specs.Moments.{Throughout};
-ghost use Rattle.frame_log.specs.Standing.{SparesOthers, Changed};
+ghost use Rattle.frame_log.specs.Standing.{SparesOthers, Changed, Since};
 
 use disk_model::{Disk, Failed};
 
@@ -20,8 +19,8 @@ pub(crate) fn put<D: Disk>(disk: &mut D, file: u8, place: u64, bytes: &[u8]) -> 
     ensures longer { (n : ℕ) → IfSome (D.seen disk.old) (λ image. n ≤ length (image file))
         → IfSome (D.seen disk.new) (λ image. n ≤ length (image file)) }
     ensures others { SparesOthers D.seen D.may_leave D.moment D.left_since file disk.old disk.new }
-    ensures torn { IsSome (D.seen disk.old) → Throughout (D.moment disk.old) (D.moment disk.new)
-        (D.left_since disk.old) (D.left_since disk.new) (Changed (D.may_leave disk.old) file (Torn place (length bytes.now))) }
+    ensures torn { IsSome (D.seen disk.old) → Since D.moment D.left_since disk.old disk.new
+        (Changed (D.may_leave disk.old) file (Torn place (length bytes.now))) }
     ensures cause { HasCause (D.faults disk.old) (D.faults disk.new) result }
 {
     disk.write_at(file, place, bytes)?;
@@ -35,10 +34,11 @@ pub(crate) fn keep<D: Disk>(disk: &mut D, file: u8, len: u64) -> Result<(), Fail
     requires len { IfSome (D.seen disk.old) (λ image. len ≤ length (image file)) }
     requires end { len ≤ 2 ^ 62 }
     ensures longer { IfSome (D.seen disk.new) (λ image. len ≤ length (image file)) }
-    ensures trimmed { OnOk result (IfSome (D.seen disk.new) (λ _. (c : Image) → D.may_leave disk.new c → length (c file) ≡ len)) }
+    ensures trimmed { OnOk result (IfSome (D.seen disk.new) (λ _.
+        (c : Image) → D.may_leave disk.new c → length (c file) ≡ len)) }
     ensures others { SparesOthers D.seen D.may_leave D.moment D.left_since file disk.old disk.new }
-    ensures cut { IsSome (D.seen disk.old) → Throughout (D.moment disk.old) (D.moment disk.new)
-        (D.left_since disk.old) (D.left_since disk.new) (Changed (D.may_leave disk.old) file (MayCut len)) }
+    ensures cut { IsSome (D.seen disk.old) → Since D.moment D.left_since disk.old disk.new
+        (Changed (D.may_leave disk.old) file (MayCut len)) }
     ensures cause { HasCause (D.faults disk.old) (D.faults disk.new) result }
 {
     disk.cut(file, len)?;

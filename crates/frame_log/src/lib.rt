@@ -13,7 +13,7 @@ mod state;
 mod tests;
 
 pub use frame::{CLOSED, Frame, OPEN};
-pub use laws::bytes_say_one_thing;
+pub use laws::{bytes_say_one_thing, other_logs_stand};
 pub use log::Log;
 pub use refusal::{LogRefusal, ScanRefusal};
 pub use scanning::scan;

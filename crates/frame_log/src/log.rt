@@ -1,5 +1,5 @@
 // A log of frames.
-ghost use Rattle.std.specs.Prelude.{◌≡◌, ◌≢◌, ◌<◌, ◌≤◌, ◌+◌, ◌^◌, ◌↔◌, ℕ, List, [], ◌∷◌, ◌++◌, length, IsTrue, IfOk, OnOk, OnErr, IsErrOf, IfErr, MatchResult, ◌-◌, ◌⊎◌};
+ghost use Rattle.std.specs.Prelude.{◌≡◌, ◌≢◌, ◌<◌, ◌≤◌, ◌+◌, ◌^◌, ◌↔◌, length, IsTrue, IfErr, OnOk, OnErr, MatchResult};
 ghost use Rattle.disk_model.specs.declared.disk.TheConstants.{LOG_COUNT};
 
 use crate::device::{keep, put};
@@ -22,19 +22,20 @@ pub struct Log {
 }
 
 impl Log {
-    ghost use Rattle.disk_model.specs.Causes.{Rose};
-    ghost use Rattle.disk_model.specs.Moments.{Throughout};
-    ghost use Rattle.frame_log.specs.Frames.{MayHave};
-    ghost use Rattle.frame_log.specs.Standing.{IsDown, IsEmpty, Takes, Refuses, ResetRefuses, IsWithin, IsTrimmed, Stands, Holds, SparesOthers, file_of};
+    ghost use Rattle.disk_model.specs.Causes.{HasCause};
+    ghost use Rattle.frame_log.specs.Standing.{file_of, end_of, IsUp, IsDown, IsTouched, IsEmpty};
+    ghost use Rattle.frame_log.specs.Standing.{IsWithin, IsTrimmed, KeepsToLog};
+    ghost use Rattle.frame_log.specs.Calls.{NotAdmitted, AppendAnswers, ResetAnswers, ReviveAnswers};
+    ghost use Rattle.frame_log.specs.Calls.{Adds, Empties, BringsBack, Shuts, TrimsFrames};
     ghost use Rattle.frame_log.specs.declared.refusal.LogRefusal.TheVariants.{Fault};
-    ghost use Rattle.frame_log.specs.declared.state.State.TheVariants.{Good, Touched};
+    ghost use Rattle.frame_log.specs.declared.state.State.TheVariants.{Touched};
 
     // The log whose last gate stands closed at this place.
     pub(crate) fn ending(file: u8, end: u64) -> Log
         requires file { file < LOG_COUNT }
         requires end { end < 2 ^ 62 }
-        ensures place { (result.file ≡ file) × (result.end ≡ end) }
-        ensures good { result.state ≡ Good }
+        ensures place { (file_of result ≡ file) × (end_of result ≡ end) }
+        ensures up { IsUp result }
     {
         Log {
             file,
@@ -50,49 +51,55 @@ impl Log {
         self.state != State::Good
     }
 
-    // Where the log's last gate stands once a frame of so many bytes is added.
-    fn end_with(&self, len: usize) -> Result<u64, LogRefusal>
-        requires { 9 ≤ len }
-        ensures fits { IfOk result (λ end. (end ≡ self.now.end + len) × (end < 2 ^ 62)) }
-        ensures answer { MatchResult result (λ _. Takes self.now (len - 9)) (Refuses self.now (len - 9)) }
-        ensures no_fault { IfErr result (λ refusal. refusal ≢ Fault) }
+    /// Whether that fault came while the gate was written, so that a crash may leave what was broken off.
+    pub fn is_touched(&self) -> bool
+        ensures { IsTrue result ↔ IsTouched self.now }
+    {
+        self.state == State::Touched
+    }
+
+    /// Whether the log has no frame.
+    pub fn is_empty(&self) -> bool
+        ensures { IsTrue result ↔ IsEmpty self.now }
+    {
+        self.end == 0
+    }
+
+    /// Where the last gate would stand behind this frame.
+    pub fn end_with(&self, frame: &Frame) -> u64
+        ensures { result ≡ end_of self.now + 9 + length frame.now }
+    {
+        self.end + frame.bytes().len() as u64
+    }
+
+    // Whether the log takes a frame that ends here.
+    fn admit(&self, end: u64) -> Result<(), LogRefusal>
+        ensures { MatchResult result (λ _. IsUp self.now × (end < 2 ^ 62)) (NotAdmitted self.now end) }
     {
         if self.is_down() {
             return Err(LogRefusal::Down);
         }
-        if len as u64 > LONGEST - 1 - self.end {
+        if end >= LONGEST {
             return Err(LogRefusal::Long { end: self.end });
         }
-        Ok(self.end + len as u64)
+        Ok(())
     }
 
     /// Adds a frame. Once it answers Ok, each crash leaves it.
     ///
-    /// Four device calls: the frame is written behind the closed gate and synced, the gate is opened and synced.
+    /// Four device calls and no memory: the frame is written behind the closed gate and synced, the gate is opened and
+    /// synced.
     pub fn append<D: Disk>(&mut self, disk: &mut D, frame: &Frame) -> Result<(), LogRefusal>
         requires within { IsWithin self.old (D.seen disk.old) }
-        ensures within { IsWithin self.new (D.seen disk.new) }
-
-        ensures added { (kept : List (List ℕ)) → Holds D.seen D.may_leave self.old disk.old kept
-            → OnOk result (Holds D.seen D.may_leave self.new disk.new (kept ++ frame.now ∷ [])) }
-        ensures broken { (kept : List (List ℕ)) → Holds D.seen D.may_leave self.old disk.old kept
-            → OnErr result (Stands D.seen D.may_leave self.new disk.new kept (frame.now ∷ [])) }
-        ensures any_moment { (kept : List (List ℕ)) → Holds D.seen D.may_leave self.old disk.old kept
-            → Throughout (D.moment disk.old) (D.moment disk.new) (D.left_since disk.old) (D.left_since disk.new)
-            (λ c. MayHave kept (frame.now ∷ []) (c (file_of self.old))) }
-        ensures others { SparesOthers D.seen D.may_leave D.moment D.left_since (file_of self.old) disk.old disk.new }
-
-        ensures answer { MatchResult result (λ _. Takes self.old (length frame.now)) (Refuses self.old (length frame.now)) }
-        ensures down { MatchResult result (λ _. IsDown self.new → ⊥) (λ refusal. refusal ≡ Fault → IsDown self.new) }
-        ensures same { IfErr result (λ refusal. refusal ≢ Fault → (self.new ≡ self.old) × (disk.new ≡ disk.old)) }
-        ensures file { file_of self.new ≡ file_of self.old }
-        ensures cause { (D.faults disk.old ≤ D.faults disk.new)
-            × (IsErrOf result Fault → Rose (D.faults disk.old) (D.faults disk.new)) }
+        ensures answer { AppendAnswers D.faults self.old self.new disk.old disk.new (length frame.now) result }
+        ensures frames { Adds D.seen D.may_leave D.moment D.left_since frame.now
+            self.old self.new disk.old disk.new result }
+        ensures disk { KeepsToLog D.seen D.may_leave D.moment D.left_since self.new disk.old disk.new }
     {
-        let bytes = frame.bytes();
-        let end = self.end_with(bytes.len())?;
+        let end = self.end_with(frame);
+        self.admit(end)?;
         self.state = State::Down;
-        put(disk, self.file, self.end + 1, bytes)?;
+        put(disk, self.file, self.end + 1, frame.bytes())?;
         self.state = State::Touched;
         put(disk, self.file, self.end, &[OPEN])?;
         self.end = end;
@@ -102,34 +109,20 @@ impl Log {
 
     /// Takes all frames away. Once it answers Ok, no crash leaves one.
     ///
-    /// A log without frames makes no device call. Else there are four: a closed gate is written at the start and
-    /// synced, what is behind it is cut off and synced.
+    /// A log without frames makes no device call. Else there are four, and no memory is taken: a closed gate is written
+    /// at the start and synced, what is behind it is cut off and synced.
     pub fn reset<D: Disk>(&mut self, disk: &mut D) -> Result<(), LogRefusal>
         requires within { IsWithin self.old (D.seen disk.old) }
-        ensures within { IsWithin self.new (D.seen disk.new) }
-
-        ensures emptied { (kept : List (List ℕ)) → Holds D.seen D.may_leave self.old disk.old kept
-            → OnOk result (Holds D.seen D.may_leave self.new disk.new []) }
-        ensures broken { (kept : List (List ℕ)) → Holds D.seen D.may_leave self.old disk.old kept
-            → OnErr result (Stands D.seen D.may_leave self.new disk.new [] kept) }
-        ensures any_moment { (kept : List (List ℕ)) → Holds D.seen D.may_leave self.old disk.old kept
-            → Throughout (D.moment disk.old) (D.moment disk.new) (D.left_since disk.old) (D.left_since disk.new)
-            (λ c. MayHave [] kept (c (file_of self.old))) }
-        ensures others { SparesOthers D.seen D.may_leave D.moment D.left_since (file_of self.old) disk.old disk.new }
-
-        ensures trimmed { OnOk result ((IsEmpty self.old → ⊥) → IsTrimmed self.new (D.seen disk.new) (D.may_leave disk.new)) }
-
-        ensures answer { MatchResult result (λ _. (IsDown self.old → ⊥) × (IsDown self.new → ⊥))
-            (λ refusal. ResetRefuses self.old refusal × IsDown self.new) }
-        ensures same { IsDown self.old ⊎ IsEmpty self.old → (self.new ≡ self.old) × (disk.new ≡ disk.old) }
-        ensures file { file_of self.new ≡ file_of self.old }
-        ensures cause { (D.faults disk.old ≤ D.faults disk.new)
-            × (IsErrOf result Fault → Rose (D.faults disk.old) (D.faults disk.new)) }
+        ensures answer { ResetAnswers D.faults self.old self.new disk.old disk.new result }
+        ensures frames { Empties D.seen D.may_leave D.moment D.left_since
+            self.old self.new disk.old disk.new result }
+        ensures trimmed { OnOk result (TrimsFrames self.old self.new (D.seen disk.new) (D.may_leave disk.new)) }
+        ensures disk { KeepsToLog D.seen D.may_leave D.moment D.left_since self.new disk.old disk.new }
     {
         if self.is_down() {
             return Err(LogRefusal::Down);
         }
-        if self.end == 0 {
+        if self.is_empty() {
             return Ok(());
         }
         self.end = 0;
@@ -140,26 +133,14 @@ impl Log {
     /// Brings the log back to its last acknowledged frame. A reset that was broken off is done to its end.
     ///
     /// Where a fault may have opened the gate, it is first written closed and synced. Then what is behind the gate is
-    /// cut off, and that is synced. A log that isn't down is cut too, which takes no frame away.
+    /// cut off, and that is synced. A log that isn't down is cut too, which takes no frame away. No memory is taken.
     pub fn revive<D: Disk>(&mut self, disk: &mut D) -> Result<(), LogRefusal>
         requires within { IsWithin self.old (D.seen disk.old) }
-        ensures within { IsWithin self.new (D.seen disk.new) }
-
-        ensures revived { (kept more : List (List ℕ)) → Stands D.seen D.may_leave self.old disk.old kept more
-            → OnOk result (Holds D.seen D.may_leave self.new disk.new kept) }
-        ensures broken { (kept more : List (List ℕ)) → Stands D.seen D.may_leave self.old disk.old kept more
-            → OnErr result (Stands D.seen D.may_leave self.new disk.new kept more) }
-        ensures any_moment { (kept more : List (List ℕ)) → Stands D.seen D.may_leave self.old disk.old kept more
-            → Throughout (D.moment disk.old) (D.moment disk.new) (D.left_since disk.old) (D.left_since disk.new)
-            (λ c. MayHave kept more (c (file_of self.old))) }
-        ensures others { SparesOthers D.seen D.may_leave D.moment D.left_since (file_of self.old) disk.old disk.new }
-
+        ensures answer { ReviveAnswers D.faults self.old self.new disk.old disk.new result }
+        ensures frames { BringsBack D.seen D.may_leave D.moment D.left_since
+            self.old self.new disk.old disk.new result }
         ensures trimmed { OnOk result (IsTrimmed self.new (D.seen disk.new) (D.may_leave disk.new)) }
-
-        ensures answer { MatchResult result (λ _. IsDown self.new → ⊥) (λ refusal. (refusal ≡ Fault) × IsDown self.new) }
-        ensures file { file_of self.new ≡ file_of self.old }
-        ensures cause { (D.faults disk.old ≤ D.faults disk.new)
-            × OnErr result (Rose (D.faults disk.old) (D.faults disk.new)) }
+        ensures disk { KeepsToLog D.seen D.may_leave D.moment D.left_since self.new disk.old disk.new }
     {
         self.shut(disk)?;
         self.state = State::Down;
@@ -171,20 +152,14 @@ impl Log {
     // Closes the gate where a fault may have opened it.
     fn shut<D: Disk>(&mut self, disk: &mut D) -> Result<(), LogRefusal>
         requires within { IsWithin self.old (D.seen disk.old) }
-        ensures within { IsWithin self.new (D.seen disk.new) }
-        ensures stands { (kept more : List (List ℕ)) → Stands D.seen D.may_leave self.old disk.old kept more
-            → Stands D.seen D.may_leave self.new disk.new kept more }
-        ensures any_moment { (kept more : List (List ℕ)) → Stands D.seen D.may_leave self.old disk.old kept more
-            → Throughout (D.moment disk.old) (D.moment disk.new) (D.left_since disk.old) (D.left_since disk.new)
-            (λ c. MayHave kept more (c (file_of self.old))) }
-        ensures others { SparesOthers D.seen D.may_leave D.moment D.left_since (file_of self.old) disk.old disk.new }
+        ensures frames { Shuts D.seen D.may_leave D.moment D.left_since self.old self.new disk.old disk.new }
+        ensures disk { KeepsToLog D.seen D.may_leave D.moment D.left_since self.new disk.old disk.new }
         ensures shut { OnOk result (self.new.state ≢ Touched) }
         ensures down { IfErr result (λ refusal. (refusal ≡ Fault) × IsDown self.new) }
-        ensures place { (self.new.file ≡ self.old.file) × (self.new.end ≡ self.old.end) }
-        ensures cause { (D.faults disk.old ≤ D.faults disk.new)
-            × OnErr result (Rose (D.faults disk.old) (D.faults disk.new)) }
+        ensures place { (file_of self.new ≡ file_of self.old) × (end_of self.new ≡ end_of self.old) }
+        ensures cause { HasCause (D.faults disk.old) (D.faults disk.new) result }
     {
-        if self.state != State::Touched {
+        if !self.is_touched() {
             return Ok(());
         }
         put(disk, self.file, self.end, &[CLOSED])?;

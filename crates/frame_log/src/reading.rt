@@ -1,37 +1,42 @@
 // Reading from a log until a buffer is full.
-ghost use Rattle.std.specs.Prelude.{◌≡◌, ◌<◌, ◌≤◌, ◌+◌, ◌^◌, ℕ, length, take, drop, IsTrue, IfSome, IfOk};
+ghost use Rattle.std.specs.Prelude.{◌≡◌, ◌<◌, ◌≤◌, ◌+◌, ◌^◌, ℕ, length, take, drop, IfSome, IfOk, IfErr, OnOk};
 ghost use Rattle.disk_model.specs.declared.disk.TheConstants.{LOG_COUNT};
 ghost use Rattle.disk_model.specs.Causes.{HasCause};
 ghost use Rattle.frame_log.specs.Standing.{OnlyRead};
+ghost use Rattle.frame_log.specs.Calls.{Blames};
 ghost use Rattle.frame_log.specs.Scanned.{IsRead};
+ghost use Rattle.frame_log.specs.declared.refusal.ScanRefusal.TheVariants.{Fault};
 
+use crate::refusal::ScanRefusal;
 use disk_model::{Disk, Failed};
 
-/// Fills `out` with the bytes from this place on. False where a read gave none, which only an untold disk does.
+// Fills `out` with the bytes from this place on. A read that gives none, as only an untold disk does, damages the gate.
 pub(crate) fn fill<D: Disk>(
     disk: &mut D,
     file: u8,
+    gate: u64,
     place: u64,
     out: &mut [u8],
-) -> Result<bool, Failed>
+) -> Result<(), ScanRefusal>
     requires file { file < LOG_COUNT }
     requires end { place + length out.old ≤ 2 ^ 62 }
     requires within { IfSome (D.seen disk.old) (λ image. place + length out.old ≤ length (image file)) }
-    ensures whole { IfOk result (λ whole. IfSome (D.seen disk.old) (λ _. IsTrue whole)) }
-    ensures bytes { IfOk result (λ _. IfSome (D.seen disk.old) (λ image. out.new ≡ take (length out.old) (drop place (image file)))) }
+    ensures bytes { OnOk result (IfSome (D.seen disk.old) (λ image.
+        out.new ≡ take (length out.old) (drop place (image file)))) }
+    ensures refused { IfErr result (λ refusal. IfSome (D.seen disk.old) (λ _. refusal ≡ Fault)) }
     ensures read { OnlyRead D.seen D.may_leave D.moment D.left_since disk.old disk.new }
     ensures len { length out.new ≡ length out.old }
-    ensures cause { HasCause (D.faults disk.old) (D.faults disk.new) result }
+    ensures cause { Blames Fault (D.faults disk.old) (D.faults disk.new) result }
 {
     let mut done = 0;
     while done < out.len() {
         let next = read_more(disk, file, place, out, done)?;
         if next == done {
-            return Ok(false);
+            return Err(ScanRefusal::Damaged { place: gate });
         }
         done = next;
     }
-    Ok(true)
+    Ok(())
 }
 
 // Reads on behind the bytes that are there. Gives how many are there then.

@@ -1,12 +1,10 @@
 // Reading a log's frames.
-ghost use Rattle.std.specs.Prelude.{◌≡◌, ◌<◌, ◌≤◌, ◌+◌, ◌^◌, length, drop, IsSome, IfSome, IfOk, IfErr, IsErrOf, MatchResult};
+ghost use Rattle.std.specs.Prelude.{◌≡◌, ◌<◌, ◌≤◌, ◌+◌, ◌^◌, true, length, drop, IfSome, IfOk, IfErr};
 ghost use Rattle.std.specs.Int.{w64, to_be_bytes, from_be_bytes};
 ghost use Rattle.disk_model.specs.declared.disk.TheConstants.{LOG_COUNT};
-ghost use Rattle.disk_model.specs.Causes.{Rose};
-ghost use Rattle.disk_model.specs.Logs.{Settled};
-ghost use Rattle.frame_log.specs.Frames.{HasFrames};
-ghost use Rattle.frame_log.specs.Standing.{OnlyRead, IsDown, IsWithin, Holds, file_of};
-ghost use Rattle.frame_log.specs.Scanned.{IsNext, NotNext, NotScanned, bodies_of};
+ghost use Rattle.frame_log.specs.Standing.{OnlyRead};
+ghost use Rattle.frame_log.specs.Calls.{Blames};
+ghost use Rattle.frame_log.specs.Scanned.{IsGate, IsNext, NotNext, HasSize, Scans, Opens, bodies_of};
 ghost use Rattle.frame_log.specs.declared.refusal.ScanRefusal.TheVariants.{Fault};
 
 use crate::frame::OPEN;
@@ -25,18 +23,10 @@ pub fn scan<D: Disk>(
     file: u8,
 ) -> Result<(Log, Vec<Vec<u8>>), ScanRefusal>
     requires { file < LOG_COUNT }
-
-    ensures found { IfOk result (λ found. IfSome (D.seen disk.old) (λ image. HasFrames (bodies_of found.1) (image file))) }
-    ensures refused { IfErr result (λ refusal. IfSome (D.seen disk.old) (λ image. NotScanned (image file) refusal)) }
-
-    // Where each image has of this log what is read, the log stands on the disk.
-    ensures holds { IfOk result (λ found. IsSome (D.seen disk.old) → Settled file (D.seen disk.old) (D.may_leave disk.old)
-        → Holds D.seen D.may_leave found.0 disk.new (bodies_of found.1)) }
-    ensures log { IfOk result (λ found. (file_of found.0 ≡ file) × (IsDown found.0 → ⊥) × IsWithin found.0 (D.seen disk.new)) }
-
+    ensures answer { IfSome (D.seen disk.old) (λ image. Scans (image file) result) }
+    ensures log { IfOk result (λ found. Opens D.seen D.may_leave file disk.old disk.new found.0 (bodies_of found.1)) }
     ensures read { OnlyRead D.seen D.may_leave D.moment D.left_since disk.old disk.new }
-    ensures cause { (D.faults disk.old ≤ D.faults disk.new)
-        × (IsErrOf result Fault → Rose (D.faults disk.old) (D.faults disk.new)) }
+    ensures cause { Blames Fault (D.faults disk.old) (D.faults disk.new) result }
 {
     let len = disk.len(file)?;
     if len == 0 {
@@ -51,49 +41,78 @@ pub fn scan<D: Disk>(
     Ok((Log::ending(file, end), bodies))
 }
 
-/// What stands at the gate at this place of a log of so many bytes: the body of a frame, or none at a closed gate.
-pub(crate) fn next<D: Disk>(
+// What stands at the gate at this place of a log of so many bytes: the body of a frame, or none at a closed gate.
+fn next<D: Disk>(
     alloc: Global,
     disk: &mut D,
     file: u8,
     len: u64,
-    place: u64,
+    gate: u64,
 ) -> Result<Option<Vec<u8>>, ScanRefusal>
     requires file { file < LOG_COUNT }
     requires len { len ≤ 2 ^ 62 }
-    requires place { place < len }
+    requires gate { gate < len }
     requires told { IfSome (D.seen disk.old) (λ image. len ≡ length (image file)) }
-    ensures found { IfOk result (λ found. IfSome (D.seen disk.old) (λ image. IsNext (drop place (image file)) found)) }
-    ensures inside { IfOk result (λ found. IfSome found (λ body. place + 9 + length body.items < len)) }
-    ensures refused { IfErr result (λ refusal. IfSome (D.seen disk.old) (λ image. NotNext place (drop place (image file)) refusal)) }
+    ensures found { IfOk result (λ found. IfSome (D.seen disk.old) (λ image.
+        IsNext (drop gate (image file)) found)) }
+    ensures inside { IfOk result (λ found. IfSome found (λ body. gate + 9 + length body.items < len)) }
+    ensures refused { IfErr result (λ refusal. IfSome (D.seen disk.old) (λ image.
+        NotNext gate (drop gate (image file)) refusal)) }
     ensures read { OnlyRead D.seen D.may_leave D.moment D.left_since disk.old disk.new }
-    ensures cause { (D.faults disk.old ≤ D.faults disk.new)
-        × (IsErrOf result Fault → Rose (D.faults disk.old) (D.faults disk.new)) }
+    ensures cause { Blames Fault (D.faults disk.old) (D.faults disk.new) result }
 {
-    let damaged = ScanRefusal::Damaged { place };
-    let mut gate = [0];
-    if !fill(disk, file, place, &mut gate)? {
-        return Err(damaged);
-    }
-    if gate[0] != OPEN {
+    if !is_open(disk, file, len, gate)? {
         return Ok(None);
     }
-    if len - place < 10 {
-        return Err(damaged);
-    }
-    let mut size = [0; 8];
-    if !fill(disk, file, place + 1, &mut size)? {
-        return Err(damaged);
-    }
-    let size = number_of(size);
-    if size > len - place - 10 {
-        return Err(damaged);
-    }
+    let size = size_at(disk, file, len, gate)?;
     let mut body = vec![in alloc; 0; size as usize]?;
-    if !fill(disk, file, place + 9, &mut body)? {
-        return Err(damaged);
-    }
+    fill(disk, file, gate, gate + 9, &mut body)?;
     Ok(Some(body))
+}
+
+// Whether the gate at this place is open.
+fn is_open<D: Disk>(disk: &mut D, file: u8, len: u64, gate: u64) -> Result<bool, ScanRefusal>
+    requires file { file < LOG_COUNT }
+    requires len { len ≤ 2 ^ 62 }
+    requires gate { gate < len }
+    requires told { IfSome (D.seen disk.old) (λ image. len ≡ length (image file)) }
+    ensures found { IfOk result (λ is_open. IfSome (D.seen disk.old) (λ image.
+        IsGate (drop gate (image file)) is_open)) }
+    ensures refused { IfErr result (λ refusal. IfSome (D.seen disk.old) (λ image.
+        NotNext gate (drop gate (image file)) refusal)) }
+    ensures read { OnlyRead D.seen D.may_leave D.moment D.left_since disk.old disk.new }
+    ensures cause { Blames Fault (D.faults disk.old) (D.faults disk.new) result }
+{
+    let mut byte = [0];
+    fill(disk, file, gate, gate, &mut byte)?;
+    Ok(byte[0] == OPEN)
+}
+
+// How long the body of the frame is whose open gate stands at this place.
+fn size_at<D: Disk>(disk: &mut D, file: u8, len: u64, gate: u64) -> Result<u64, ScanRefusal>
+    requires file { file < LOG_COUNT }
+    requires len { len ≤ 2 ^ 62 }
+    requires gate { gate < len }
+    requires told { IfSome (D.seen disk.old) (λ image. len ≡ length (image file)) }
+    requires gate_open { IfSome (D.seen disk.old) (λ image. IsGate (drop gate (image file)) true) }
+    ensures size { IfOk result (λ size. IfSome (D.seen disk.old) (λ image.
+        HasSize (drop gate (image file)) size)) }
+    ensures inside { IfOk result (λ size. gate + 9 + size < len) }
+    ensures refused { IfErr result (λ refusal. IfSome (D.seen disk.old) (λ image.
+        NotNext gate (drop gate (image file)) refusal)) }
+    ensures read { OnlyRead D.seen D.may_leave D.moment D.left_since disk.old disk.new }
+    ensures cause { Blames Fault (D.faults disk.old) (D.faults disk.new) result }
+{
+    if len - gate < 10 {
+        return Err(ScanRefusal::Damaged { place: gate });
+    }
+    let mut bytes = [0; 8];
+    fill(disk, file, gate, gate + 1, &mut bytes)?;
+    let size = number_of(bytes);
+    if size > len - gate - 10 {
+        return Err(ScanRefusal::Damaged { place: gate });
+    }
+    Ok(size)
 }
 
 // The number in eight bytes, the highest first.

@@ -121,18 +121,23 @@ fn a_crash_in_a_revive_leaves_the_old_frames_in_the_end(rt: HostRuntime) -> Resu
     Ok(())
 }
 
+// The last two of an append's calls touch the gate, which a revive then closes by two calls more.
 #[test]
 fn each_fault_is_revived(rt: HostRuntime) -> Result<(), Fail> {
     let alloc = rt.alloc();
     let frame = Frame::of(alloc, b"hi")?;
     for call in 0..4u64 {
-        let mut disk = blank(alloc, &[2 + call], None)?;
+        let calls = meter(alloc, &[2 + call], None)?;
+        let mut disk = MemoryDisk::new(alloc, blank_logs(alloc)?, calls.share()?)?;
         let (mut log, _) = scan(alloc, &mut disk, 0)?;
         assert_eq!(rt; log.append(&mut disk, &frame), Err(LogRefusal::Fault));
         assert!(rt; log.is_down());
+        assert_eq!(rt; log.is_touched(), call > 1);
         assert_eq!(rt; log.append(&mut disk, &frame), Err(LogRefusal::Down));
         assert_eq!(rt; log.reset(&mut disk), Err(LogRefusal::Down));
+        assert_eq!(rt; calls.made(), 3 + call);
         log.revive(&mut disk)?;
+        assert_eq!(rt; calls.made(), 3 + call + if call > 1 { 4 } else { 2 });
         assert_eq!(rt; (left(alloc, &disk, &[14])?, disk.unsure(0)), (0, 0));
         log.append(&mut disk, &frame)?;
         assert_eq!(rt; left(alloc, &disk, &[14])?, 1);
@@ -150,6 +155,7 @@ fn a_broken_reset_is_done_to_its_end(rt: HostRuntime) -> Result<(), Fail> {
         log.append(&mut disk, &frame)?;
         assert_eq!(rt; log.reset(&mut disk), Err(LogRefusal::Fault));
         log.revive(&mut disk)?;
+        assert!(rt; log.is_empty());
         assert_eq!(rt; (disk.len(0)?, disk.unsure(0)), (1, 0));
     }
     Ok(())
@@ -160,8 +166,11 @@ fn the_bytes_of_a_log(rt: HostRuntime) -> Result<(), Fail> {
     let alloc = rt.alloc();
     let mut disk = blank(alloc, &[], None)?;
     let (mut log, _) = scan(alloc, &mut disk, 0)?;
-    log.append(&mut disk, &Frame::of(alloc, b"hi")?)?;
+    let frame = Frame::of(alloc, b"hi")?;
+    assert_eq!(rt; log.end_with(&frame), 11);
+    log.append(&mut disk, &frame)?;
     log.append(&mut disk, &Frame::of(alloc, b"")?)?;
+    assert!(rt; !log.is_empty());
     let mut bytes = [9; 32];
     let count = disk.read_at(0, 0, &mut bytes)?;
     let wanted = b"\x4F\0\0\0\0\0\0\0\x02hi\x4F\0\0\0\0\0\0\0\0\0";
