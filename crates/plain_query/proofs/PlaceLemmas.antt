@@ -1,5 +1,6 @@
 -- The places of words: how they grow by one, and how far they reach.
-use Rattle.std.proofs.Common.{◌≡◌, ℕ, zero, suc, ◌+◌, ◌^◌, ◌<◌, ◌≤◌, Bool, true, false, cond, List, [], ◌∷◌, ◌++◌, All, drop, filter, length, refl, sym, ap, ◌∙◌, arith, add-one}
+use Rattle.std.proofs.Common.{◌≡◌, ℕ, zero, suc, ◌+◌, ◌^◌, ◌<◌, Bool, true, false, cond, List, [], ◌∷◌, ◌++◌}
+use Rattle.std.proofs.Common.{All, drop, filter, length, refl, ap, ◌∙◌, arith}
 use Rattle.std.proofs.lemmas.List.{length-map}
 use Rattle.std.proofs.lemmas.List.Elements.{filter-append, All-filter, All-nil, All-cons, All-weaker}
 use Rattle.std.specs.List.{range_with_len, starts_with}
@@ -9,26 +10,34 @@ use Rattle.doc_meaning.specs.Words.{plain, folded, fold_case}
 
 range_push-suc : (n a : ℕ) → range_with_len a (suc n) ≡ range_with_len a n ++ (a + n) ∷ []
 range_push-suc zero a = let e : a + 0 ≡ a = omega arith in rw e
-range_push-suc (suc n) a = let e : a + suc n ≡ (a + 1) + n = omega arith in rw e (ap (λ xs. a ∷ xs) (range_push-suc n (a + 1)))
+range_push-suc (suc n) a =
+    let e : a + suc n ≡ (a + 1) + n = omega arith in
+    rw e (ap (λ xs. a ∷ xs) (range_push-suc n (a + 1)))
 
 range_push : (n a : ℕ) → range_with_len a (n + 1) ≡ range_with_len a n ++ (a + n) ∷ []
 range_push n a = let e : n + 1 ≡ suc n = omega arith in rw e (range_push-suc n a)
 
-pub filter_range_push : (p : ℕ → Bool) (n : ℕ) → filter p (range_with_len 0 (n + 1)) ≡ filter p (range_with_len 0 n) ++ cond (p n) (n ∷ []) []
-filter_range_push p n = let e : 0 + n ≡ n = omega arith in ap (filter p) (range_push n 0) ∙ filter-append p (range_with_len 0 n) ((0 + n) ∷ []) ∙ rw e
+pub filter_range_push : (p : ℕ → Bool) (n : ℕ) →
+    filter p (range_with_len 0 (n + 1)) ≡ filter p (range_with_len 0 n) ++ cond (p n) (n ∷ []) []
+filter_range_push p n =
+    let e : 0 + n ≡ n = omega arith in
+    ap (filter p) (range_push n 0) ∙ filter-append p (range_with_len 0 n) ((0 + n) ∷ []) ∙ rw e
 
 range_below : (n a : ℕ) → All (λ j. j < a + n) (range_with_len a n)
 range_below zero a = All-nil (λ j. j < a + zero)
 range_below (suc n) a =
     All-cons (λ j. j < a + suc n) a (range_with_len (a + 1) n) (omega arith)
-    (All-weaker (λ j. j < (a + 1) + n) (λ j. j < a + suc n) (λ j lt. omega (arith, lt)) (range_with_len (a + 1) n) (range_below n (a + 1)))
+    (All-weaker (λ j. j < (a + 1) + n) (λ j. j < a + suc n) (λ j lt. omega (arith, lt)) (range_with_len (a + 1) n)
+    (range_below n (a + 1)))
 
 -- each place is that of a word
 pub places_below : (wanted seen : List (List ℕ)) → All (λ j. j < length seen) (places wanted seen)
 places_below [] seen = All-nil (λ j. j < length seen)
 places_below (w ∷ ws) seen =
-    All-filter (λ j. starts_with bytes_eq (drop j seen) (w ∷ ws)) (λ j. j < length seen) (range_with_len 0 (length seen))
-    (All-weaker (λ j. j < 0 + length seen) (λ j. j < length seen) (λ j lt. omega (arith, lt)) (range_with_len 0 (length seen)) (range_below (length seen) 0))
+    All-filter (λ j. starts_with bytes_eq (drop j seen) (w ∷ ws)) (λ j. j < length seen)
+    (range_with_len 0 (length seen))
+    (All-weaker (λ j. j < 0 + length seen) (λ j. j < length seen) (λ j lt. omega (arith, lt))
+    (range_with_len 0 (length seen)) (range_below (length seen) 0))
 
 -- as many words are seen as there are
 pub length-words_seen : (blind : Bool) (text : List ℕ) → length (words_seen blind text) ≡ length (plain text)
@@ -36,7 +45,9 @@ unfolding folded
 length-words_seen true text = length-map (plain text) fold_case
 length-words_seen false text = refl
 
-pub places_fit : (base : ℕ) (blind : Bool) (wanted : List (List ℕ)) (text : List ℕ) → base + length (plain text) < 2 ^ 64 → All (λ j. base + j < 2 ^ 64) (places wanted (words_seen blind text))
+pub places_fit : (base : ℕ) (blind : Bool) (wanted : List (List ℕ)) (text : List ℕ) →
+    base + length (plain text) < 2 ^ 64 → All (λ j. base + j < 2 ^ 64) (places wanted (words_seen blind text))
 places_fit base blind wanted text fits =
-    All-weaker (λ j. j < length (words_seen blind text)) (λ j. base + j < 2 ^ 64) (λ j lt. omega (arith, lt, fits, length-words_seen blind text))
+    All-weaker (λ j. j < length (words_seen blind text)) (λ j. base + j < 2 ^ 64)
+    (λ j lt. omega (arith, lt, fits, length-words_seen blind text))
     (places wanted (words_seen blind text)) (places_below wanted (words_seen blind text))

@@ -8,7 +8,8 @@ use Rattle.doc_model.specs.declared.node.Node.TheFolds.{fold-roll-Node}
 use Rattle.doc_model.specs.declared.scalar.Scalar.{Scalar}
 use Rattle.doc_meaning.specs.Strings.{Owner, scalars_step, scalars_under}
 
-pub scalars_items : (n : Node) (items : List Node) (owner : Owner) → n ≡ node.Items items → scalars_under n owner ≡ flat_map (λ item. scalars_under item owner) items
+pub scalars_items : (n : Node) (items : List Node) (owner : Owner) → n ≡ node.Items items →
+    scalars_under n owner ≡ flat_map (λ item. scalars_under item owner) items
 scalars_items n items owner is =
     ap (λ m. scalars_under m owner) (is ∙ sym (node.rolls-Items items))
     ∙ ap (λ f. f owner) (fold-roll-Node (Owner → List (Owner × Scalar)) scalars_step (Node-F.Items items))

@@ -1,11 +1,12 @@
-ghost use Rattle.std.specs.Prelude.{◌≡◌, IfOk, map};
+ghost use Rattle.std.specs.Prelude.{◌≡◌, ◌&&◌, not, IfOk, map};
 ghost use Rattle.std.specs.List.{list_any, list_all};
-ghost use Rattle.doc_meaning.specs.Estimates.{bounds, exactly, any_bound, near_bounds, text_bounds, prop_text_bounds};
-ghost use Rattle.doc_meaning.specs.Meaning.{sat};
+ghost use Rattle.doc_meaning.specs.Estimates.{bounds, any_bound, near_bounds, text_bounds};
 ghost use Rattle.doc_meaning.specs.Strings.{strings};
+ghost use Rattle.plain_query.specs.PropertyTexts.{name_bounds, names_bounds};
 
+use crate::leaves::leaf_holds;
+use crate::strings;
 use crate::text_bounding::{exactly, only_maybe, prop_text_bounds, text_bounds};
-use crate::{matches, strings};
 use doc_meaning::{Bounds, StringNode};
 use doc_model::{Case, Document, Queries, Query, Text};
 use sqlite_items::Items;
@@ -18,44 +19,23 @@ pub fn bounds(alloc: Global, query: &Query, document: &Document) -> Result<Bound
     ensures { IfOk result (λ b. b ≡ bounds document.now query.now) }
 {
     match query {
-        Query::And(queries) => {
-            let all = bounds_of(alloc, queries, document)?;
-            Ok(all_of(all.as_slice()))
-        }
-        Query::Or(queries) => {
-            let all = bounds_of(alloc, queries, document)?;
-            Ok(any_of(all.as_slice()))
-        }
-        Query::Not(query) => {
-            let inner = bounds(alloc, query.get(), document)?;
-            Ok(Bounds {
-                sure: !inner.maybe,
-                maybe: !inner.sure,
-            })
-        }
+        Query::And(queries) => Ok(all_of(bounds_of(alloc, queries, document)?.as_slice())),
+        Query::Or(queries) => Ok(any_of(bounds_of(alloc, queries, document)?.as_slice())),
+        Query::Not(query) => Ok(negated(bounds(alloc, query.get(), document)?)),
         Query::AndNot { positive, negative } => {
             let positive = bounds(alloc, positive.get(), document)?;
             let negative = bounds(alloc, negative.get(), document)?;
-            Ok(Bounds {
-                sure: positive.sure && !negative.maybe,
-                maybe: positive.maybe && !negative.sure,
-            })
+            Ok(and_not(positive, negative))
         }
         Query::Near { queries, .. } => {
             let all = bounds_of(alloc, queries, document)?;
             Ok(near_bounds(all.as_slice()))
         }
-        Query::Word { texts, case } => word_query(alloc, document, *case, texts.as_slice()),
+        Query::Word { texts, case } => word_query_bounds(alloc, document, *case, texts.as_slice()),
         Query::PropWord { names, texts, case } => {
-            prop_word_query(alloc, document, *case, texts.as_slice(), names.as_slice())
+            prop_word_query_bounds(alloc, document, *case, texts.as_slice(), names.as_slice())
         }
-        Query::True
-        | Query::False
-        | Query::PropValue { .. }
-        | Query::Range { .. }
-        | Query::Collection(_)
-        | Query::Directory { .. }
-        | Query::DocUri(_) => decided(alloc, query, document),
+        _ => Ok(exactly(leaf_holds(alloc, query, document)?)),
     }
 }
 
@@ -74,15 +54,28 @@ fn bounds_of(
     Ok(out)
 }
 
-/// Both tests of a query that they decide exactly.
-fn decided(alloc: Global, query: &Query, document: &Document) -> Result<Bounds, AllocError>
-    ensures { IfOk result (λ b. b ≡ exactly (sat query.now document.now)) }
+fn negated(inner: Bounds) -> Bounds
+    ensures { result ≡ record { sure = not inner.maybe; maybe = not inner.sure } }
 {
-    Ok(exactly(matches(alloc, query, document)?))
+    Bounds {
+        sure: !inner.maybe,
+        maybe: !inner.sure,
+    }
+}
+
+fn and_not(positive: Bounds, negative: Bounds) -> Bounds
+    ensures sure { result.sure ≡ (positive.sure && not negative.maybe) }
+    ensures maybe { result.maybe ≡ (positive.maybe && not negative.sure) }
+{
+    Bounds {
+        sure: positive.sure && !negative.maybe,
+        maybe: positive.maybe && !negative.sure,
+    }
 }
 
 fn all_of(all: &[Bounds]) -> Bounds
-    ensures { result ≡ record { sure = list_all (λ b. b.sure) all.now; maybe = list_all (λ b. b.maybe) all.now } }
+    ensures sure { result.sure ≡ list_all (λ b. b.sure) all.now }
+    ensures maybe { result.maybe ≡ list_all (λ b. b.maybe) all.now }
 {
     Bounds {
         sure: all_sure(all),
@@ -134,7 +127,7 @@ fn any_maybe(all: &[Bounds]) -> bool
 }
 
 #[tactic(auto, using(crate::proofs::FitLemmas::document_fits))]
-fn word_query(
+fn word_query_bounds(
     alloc: Global,
     document: &Document,
     case: Case,
@@ -151,19 +144,32 @@ fn word_query(
 }
 
 #[tactic(auto, using(crate::proofs::FitLemmas::document_fits))]
-fn prop_word_query(
+fn prop_word_query_bounds(
     alloc: Global,
     document: &Document,
     case: Case,
     texts: &[Text],
     names: &[Text],
 ) -> Result<Bounds, AllocError>
-    ensures { IfOk result (λ b. b ≡ any_bound (map (λ name. any_bound (map (λ text. prop_text_bounds (strings document.now.root) case text name) texts.now)) names.now)) }
+    ensures { IfOk result (λ b. b ≡ names_bounds (strings document.now.root) case texts.now names.now) }
 {
     let found = strings(alloc, document.root())?;
+    names_bounds(alloc, found.as_slice(), case, texts, names)
+}
+
+/// Both tests for some of the texts in the strings of some properties.
+fn names_bounds(
+    alloc: Global,
+    found: &[StringNode],
+    case: Case,
+    texts: &[Text],
+    names: &[Text],
+) -> Result<Bounds, AllocError>
+    ensures { IfOk result (λ b. b ≡ names_bounds found.now case texts.now names.now) }
+{
     let mut out = Items::new(alloc);
     for name in names {
-        out.push(name_bounds(alloc, found.as_slice(), case, texts, name.as_str())?)?;
+        out.push(name_bounds(alloc, found, case, texts, name.as_str())?)?;
     }
     Ok(any_of(out.as_slice()))
 }
@@ -176,7 +182,7 @@ fn name_bounds(
     texts: &[Text],
     name: &str,
 ) -> Result<Bounds, AllocError>
-    ensures { IfOk result (λ b. b ≡ any_bound (map (λ text. prop_text_bounds found.now case text name.now) texts.now)) }
+    ensures { IfOk result (λ b. b ≡ name_bounds found.now case texts.now name.now) }
 {
     let mut out = Items::new(alloc);
     for text in texts {

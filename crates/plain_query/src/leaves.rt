@@ -3,15 +3,48 @@ ghost use Rattle.std.specs.List.{list_any};
 ghost use Rattle.doc_meaning.specs.Meaning.{some_pair, have_common, in_directory};
 ghost use Rattle.doc_meaning.specs.Strings.{scalars_of, scalars, is_owned};
 ghost use Rattle.doc_meaning.specs.Values.{scalar_equals, in_range};
+ghost use Rattle.plain_query.specs.Leaves.{leaf_holds};
 
 use crate::text_starts::{is_among, is_owned};
 use crate::{in_directory, in_range, scalar_equals, scalars};
-use doc_model::{Case, Compare, Node, Scalar, Scalars, Text};
+use doc_model::{Case, Compare, Document, Node, Query, Scalar, Scalars, Text, Texts};
 use sqlite_items::Items;
 use std::alloc::{AllocError, Global};
 
+/// Whether a query holds that looks at no words and has no children. No other query does.
+pub(crate) fn leaf_holds(
+    alloc: Global,
+    query: &Query,
+    document: &Document,
+) -> Result<bool, AllocError>
+    ensures { IfOk result (λ b. b ≡ leaf_holds query.now document.now) }
+{
+    match query {
+        Query::True => Ok(true),
+        Query::PropValue {
+            names,
+            values,
+            case,
+            exact,
+        } => {
+            let found = scalars_of(alloc, names.as_slice(), document.root())?;
+            some_equals(alloc, *case, *exact, found.as_slice(), values.as_slice())
+        }
+        Query::Range { names, op, values } => {
+            let found = scalars_of(alloc, names.as_slice(), document.root())?;
+            Ok(some_in_range(*op, found.as_slice(), values.as_slice()))
+        }
+        Query::Collection(names) => Ok(have_common(document.collections(), names)),
+        Query::Directory { uris, infinite } => {
+            Ok(in_some_directory(*infinite, document.uri().as_str(), uris.as_slice()))
+        }
+        Query::DocUri(uris) => Ok(is_among(uris.as_slice(), document.uri().as_str())),
+        _ => Ok(false),
+    }
+}
+
 /// The scalars of the named properties.
-pub(crate) fn scalars_of(alloc: Global, names: &[Text], root: &Node) -> Result<Scalars, AllocError>
+fn scalars_of(alloc: Global, names: &[Text], root: &Node) -> Result<Scalars, AllocError>
     ensures { IfOk result (λ found. found ≡ scalars_of names.now root.now) }
 {
     let found = scalars(alloc, root)?;
@@ -23,7 +56,8 @@ fn owned_scalars(
     names: &[Text],
     found: &[(Option<Text>, Scalar)],
 ) -> Result<Scalars, AllocError>
-    ensures { IfOk result (λ owned. owned ≡ map (λ s. s.1) (filter (λ s. is_owned (Some names.now) s.0) found.now)) }
+    ensures { let owned = filter (λ s. is_owned (Some names.now) s.0) found.now in
+        IfOk result (λ scalars. scalars ≡ map (λ s. s.1) owned) }
 {
     let mut out = Items::new(alloc);
     for scalar in found {
@@ -32,21 +66,6 @@ fn owned_scalars(
         }
     }
     Ok(out)
-}
-
-/// Whether some scalar of the named properties equals some wanted one.
-pub(crate) fn some_value(
-    alloc: Global,
-    root: &Node,
-    names: &[Text],
-    case: Case,
-    exact: bool,
-    wanted: &[Scalar],
-) -> Result<bool, AllocError>
-    ensures { IfOk result (λ b. b ≡ some_pair (scalar_equals case exact) (scalars_of names.now root.now) wanted.now) }
-{
-    let found = scalars_of(alloc, names, root)?;
-    some_equals(alloc, case, exact, found.as_slice(), wanted)
 }
 
 /// Whether some scalar equals some wanted one.
@@ -85,7 +104,7 @@ fn equals_some(
 }
 
 /// Whether some scalar compares so with some wanted one.
-pub(crate) fn some_in_range(op: Compare, found: &[Scalar], wanted: &[Scalar]) -> bool
+fn some_in_range(op: Compare, found: &[Scalar], wanted: &[Scalar]) -> bool
     ensures { result ≡ some_pair (in_range op) found.now wanted.now }
 {
     found
@@ -100,14 +119,18 @@ fn in_range_of_some(op: Compare, scalar: &Scalar, wanted: &[Scalar]) -> bool
 }
 
 /// Whether some name is one of the names.
-pub(crate) fn have_common(names: &[Text], wanted: &[Text]) -> bool
+fn have_common(names: &Texts, wanted: &Texts) -> bool
     ensures { result ≡ have_common names.now wanted.now }
 {
-    wanted.iter().any(|name| is_among(names, name.as_str()))
+    let names = names.as_slice();
+    wanted
+        .as_slice()
+        .iter()
+        .any(|name| is_among(names, name.as_str()))
 }
 
 /// Whether a URI lies in one of the directories.
-pub(crate) fn in_some_directory(infinite: bool, uri: &str, directories: &[Text]) -> bool
+fn in_some_directory(infinite: bool, uri: &str, directories: &[Text]) -> bool
     ensures { result ≡ list_any (in_directory infinite uri.now) directories.now }
 {
     directories.iter().any(|directory| in_directory(infinite, uri, directory.as_str()))

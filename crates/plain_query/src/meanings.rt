@@ -5,8 +5,8 @@ ghost use Rattle.doc_meaning.specs.Meaning.{meaning, plainly, from_starts, word_
 ghost use Rattle.doc_meaning.specs.Near.{is_near};
 ghost use Rattle.doc_meaning.specs.Strings.{strings};
 
-use crate::leaves::{have_common, in_some_directory, scalars_of, some_in_range, some_value};
-use crate::text_starts::{is_among, word_starts};
+use crate::leaves::leaf_holds;
+use crate::text_starts::word_starts;
 use crate::{is_near, strings};
 use doc_meaning::Meaning;
 use doc_model::{Case, Document, Queries, Query, Text};
@@ -19,18 +19,9 @@ pub fn meaning(alloc: Global, query: &Query, document: &Document) -> Result<Mean
     ensures { IfOk result (λ m. m ≡ meaning document.now query.now) }
 {
     match query {
-        Query::And(queries) => {
-            let all = meanings(alloc, queries, document)?;
-            Ok(plainly(alloc, all_hold(all.as_slice())))
-        }
-        Query::Or(queries) => {
-            let all = meanings(alloc, queries, document)?;
-            any_of(alloc, all.as_slice())
-        }
-        Query::Not(query) => {
-            let inner = meaning(alloc, query.get(), document)?;
-            Ok(plainly(alloc, !inner.holds))
-        }
+        Query::And(queries) => Ok(all_of(alloc, meanings(alloc, queries, document)?.as_slice())),
+        Query::Or(queries) => any_of(alloc, meanings(alloc, queries, document)?.as_slice()),
+        Query::Not(query) => Ok(plainly(alloc, !meaning(alloc, query.get(), document)?.holds)),
         Query::AndNot { positive, negative } => {
             let positive = meaning(alloc, positive.get(), document)?;
             let negative = meaning(alloc, negative.get(), document)?;
@@ -44,45 +35,12 @@ pub fn meaning(alloc: Global, query: &Query, document: &Document) -> Result<Mean
             let all = meanings(alloc, queries, document)?;
             near_meaning(alloc, *distance, *ordered, all.as_slice())
         }
-        Query::Word { texts, case } => {
-            word_meaning(alloc, document, texts.as_slice(), *case, None)
-        }
+        Query::Word { texts, case } => word_meaning(alloc, document, texts.as_slice(), *case, None),
         Query::PropWord { names, texts, case } => {
             let names = Some(names.as_slice());
             word_meaning(alloc, document, texts.as_slice(), *case, names)
         }
-        Query::True => Ok(plainly(alloc, true)),
-        Query::False => Ok(plainly(alloc, false)),
-        Query::PropValue {
-            names,
-            values,
-            case,
-            exact,
-        } => {
-            let names = names.as_slice();
-            let values = values.as_slice();
-            let holds = some_value(alloc, document.root(), names, *case, *exact, values)?;
-            Ok(plainly(alloc, holds))
-        }
-        Query::Range { names, op, values } => {
-            let found = scalars_of(alloc, names.as_slice(), document.root())?;
-            Ok(plainly(
-                alloc,
-                some_in_range(*op, found.as_slice(), values.as_slice()),
-            ))
-        }
-        Query::Collection(names) => Ok(plainly(
-            alloc,
-            have_common(document.collections().as_slice(), names.as_slice()),
-        )),
-        Query::Directory { uris, infinite } => Ok(plainly(
-            alloc,
-            in_some_directory(*infinite, document.uri().as_str(), uris.as_slice()),
-        )),
-        Query::DocUri(uris) => Ok(plainly(
-            alloc,
-            is_among(uris.as_slice(), document.uri().as_str()),
-        )),
+        _ => Ok(plainly(alloc, leaf_holds(alloc, query, document)?)),
     }
 }
 
@@ -110,26 +68,25 @@ fn plainly(alloc: Global, holds: bool) -> Meaning
     }
 }
 
+fn all_of(alloc: Global, meanings: &[Meaning]) -> Meaning
+    ensures { result ≡ plainly (list_all (λ q. q.holds) meanings.now) }
+{
+    plainly(alloc, all_hold(meanings))
+}
+
 fn all_hold(meanings: &[Meaning]) -> bool
-    ensures { result ≡ list_all (λ m. m.holds) meanings.now }
+    ensures { result ≡ list_all (λ q. q.holds) meanings.now }
 {
     meanings.iter().all(|m| m.holds)
 }
 
 fn any_of(alloc: Global, meanings: &[Meaning]) -> Result<Meaning, AllocError>
-    ensures { IfOk result (λ m. m ≡ record { holds = list_any (λ q. q.holds) meanings.now; starts = flat_map (λ q. q.starts) meanings.now }) }
+    ensures holds { IfOk result (λ m. m.holds ≡ list_any (λ q. q.holds) meanings.now) }
+    ensures starts { IfOk result (λ m. m.starts ≡ flat_map (λ q. q.starts) meanings.now) }
 {
     let starts = joined_starts(alloc, meanings)?;
-    Ok(Meaning {
-        holds: some_holds(meanings),
-        starts,
-    })
-}
-
-fn some_holds(meanings: &[Meaning]) -> bool
-    ensures { result ≡ list_any (λ q. q.holds) meanings.now }
-{
-    meanings.iter().any(|m| m.holds)
+    let holds = meanings.iter().any(|m| m.holds);
+    Ok(Meaning { holds, starts })
 }
 
 fn joined_starts(alloc: Global, meanings: &[Meaning]) -> Result<Items<u64>, AllocError>
@@ -174,7 +131,9 @@ fn word_meaning(
     case: Case,
     names: Option<&[Text]>,
 ) -> Result<Meaning, AllocError>
-    ensures { IfOk result (λ m. m ≡ from_starts (word_starts (strings document.now.root) texts.now case (option_copied names.entry))) }
+    ensures { let found = strings document.now.root in
+        let starts = word_starts found texts.now case (option_copied names.entry) in
+        IfOk result (λ m. m ≡ from_starts starts) }
 {
     let found = strings(alloc, document.root())?;
     let starts = word_starts(alloc, found.as_slice(), texts, case, names)?;

@@ -1,6 +1,7 @@
-ghost use Rattle.std.specs.Prelude.{◌≡◌, ◌+◌, ◌++◌, ◌&&◌, ◌||◌, [], ◌∷◌, not, nat_le, IfOk};
-ghost use Rattle.std.specs.List.{list_any, list_all};
-ghost use Rattle.doc_meaning.specs.Near.{is_near, is_within, is_rising, choices};
+ghost use Rattle.std.specs.Prelude.{◌≡◌, ◌+◌, ◌++◌, [], ◌∷◌, nat_le, IfOk};
+ghost use Rattle.std.specs.List.{list_all};
+ghost use Rattle.doc_meaning.specs.Near.{is_near, is_within, is_rising};
+ghost use Rattle.plain_query.specs.Choices.{is_close, can_be_close};
 
 use sqlite_items::Items;
 use std::alloc::{AllocError, Global};
@@ -29,7 +30,7 @@ fn some_choice(
     chosen: &[u64],
     children: &[Items<u64>],
 ) -> Result<bool, AllocError>
-    ensures { IfOk result (λ b. b ≡ list_any (λ rest. is_within distance (chosen.now ++ rest) && (not ordered || is_rising (chosen.now ++ rest))) (choices children.now)) }
+    ensures { IfOk result (λ b. b ≡ can_be_close distance ordered chosen.now children.now) }
 {
     let [starts, rest @ ..] = children else {
         return Ok(is_close(distance, ordered, chosen));
@@ -53,7 +54,7 @@ fn with_start(alloc: Global, chosen: &[u64], start: u64) -> Result<Items<u64>, A
 
 /// Whether these starts are within the distance, and rise where that is asked.
 fn is_close(distance: u32, ordered: bool, starts: &[u64]) -> bool
-    ensures { result ≡ (is_within distance starts.now && (not ordered || is_rising starts.now)) }
+    ensures { result ≡ is_close distance ordered starts.now }
 {
     is_within(distance, starts) && (!ordered || is_rising(starts))
 }

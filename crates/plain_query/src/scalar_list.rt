@@ -42,7 +42,8 @@ fn add_items(
     owner: Option<&Text>,
     out: &mut Items<(Option<Text>, Scalar)>,
 ) -> Result<(), AllocError>
-    ensures { OnOk result (out.new ≡ out.old ++ flat_map (λ item. scalars_under item (option_copied owner.entry)) items.now) }
+    ensures { let added = flat_map (λ item. scalars_under item (option_copied owner.entry)) items.now in
+        OnOk result (out.new ≡ out.old ++ added) }
 {
     for item in items.as_slice() {
         add_scalars(alloc, item, owner, out)?;
@@ -56,7 +57,8 @@ fn add_members(
     members: &Members,
     out: &mut Items<(Option<Text>, Scalar)>,
 ) -> Result<(), AllocError>
-    ensures { OnOk result (out.new ≡ out.old ++ flat_map (λ member. scalars_under member.1 (Some member.0)) members.now) }
+    ensures { let added = flat_map (λ member. scalars_under member.1 (Some member.0)) members.now in
+        OnOk result (out.new ≡ out.old ++ added) }
 {
     for member in members.as_slice() {
         add_scalars(alloc, &member.1, Some(&member.0), out)?;
@@ -76,7 +78,7 @@ fn add_scalar(
     out.push((owner, scalar))
 }
 
-fn copy_owner(alloc: Global, owner: Option<&Text>) -> Result<Option<Text>, AllocError>
+pub(crate) fn copy_owner(alloc: Global, owner: Option<&Text>) -> Result<Option<Text>, AllocError>
     ensures { IfOk result (λ o. o ≡ option_copied owner.entry) }
 {
     match owner {

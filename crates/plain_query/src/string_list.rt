@@ -1,10 +1,13 @@
-ghost use Rattle.std.specs.Prelude.{◌≡◌, ◌+◌, ◌<◌, ◌^◌, ◌++◌, [], ◌∷◌, IfOk, OnOk, length, sum_by};
+ghost use Rattle.std.specs.Prelude.{◌≡◌, ◌+◌, ◌<◌, ◌^◌, ◌++◌, [], ◌∷◌};
+ghost use Rattle.std.specs.Prelude.{IfOk, OnOk, length, sum_by};
 ghost use Rattle.std.specs.List.{filter_map};
 ghost use Rattle.std.specs.Option.{option_to_list};
 ghost use Rattle.doc_meaning.specs.Strings.{strings, scalars, with_bases, text_of};
 ghost use Rattle.doc_meaning.specs.Words.{plain};
+ghost use Rattle.doc_meaning.specs.declared.string_node.StringNode.{StringNode};
 ghost use Rattle.doc_model.specs.Tree.{size};
 
+use crate::scalar_list::copy_owner;
 use crate::scalars;
 use doc_meaning::StringNode;
 use doc_model::{Node, Scalar, Text};
@@ -44,17 +47,8 @@ fn add_text(
     ensures { OnOk result (out.new ≡ out.old ++ option_to_list (text_of scalar.now)) }
 {
     match &scalar.1 {
-        Scalar::Text(text) => out.push((copy_name(alloc, &scalar.0)?, text.copy(alloc)?)),
+        Scalar::Text(text) => out.push((copy_owner(alloc, scalar.0.as_ref())?, text.copy(alloc)?)),
         _ => Ok(()),
-    }
-}
-
-pub(crate) fn copy_name(alloc: Global, name: &Option<Text>) -> Result<Option<Text>, AllocError>
-    ensures { IfOk result (λ n. n ≡ name.now) }
-{
-    match name {
-        None => Ok(None),
-        Some(name) => Ok(Some(name.copy(alloc)?)),
     }
 }
 
@@ -82,11 +76,12 @@ fn add_string(
 ) -> Result<u64, AllocError>
     requires { base + length (plain text.now.1) < 2 ^ 64 }
     ensures next { IfOk result (λ n. n ≡ base + length (plain text.now.1)) }
-    ensures added { OnOk result (out.new ≡ out.old ++ record { owner = text.now.0; text = text.now.1; base = base } ∷ []) }
+    ensures added { let string : StringNode = record { owner = text.now.0; text = text.now.1; base = base } in
+        OnOk result (out.new ≡ out.old ++ string ∷ []) }
 {
     let count = plain_words(alloc, text.1.as_str())?.len() as u64;
     out.push(StringNode {
-        owner: copy_name(alloc, &text.0)?,
+        owner: copy_owner(alloc, text.0.as_ref())?,
         text: text.1.copy(alloc)?,
         base,
     })?;

@@ -4,6 +4,8 @@ use sqlite_items::{Boxed, Items};
 use std::alloc::{AllocError, Global};
 use std::test::Fail;
 
+mod calls;
+
 /// A document whose members have texts as their values.
 fn document(alloc: Global, uri: &str, members: &[(&str, &str)]) -> Result<Document, Fail> {
     let mut root = Items::new(alloc);
@@ -26,6 +28,18 @@ fn texts(alloc: Global, list: &[&str]) -> Result<Texts, AllocError> {
         out.push(Text::from_str(alloc, text)?)?;
     }
     Ok(out)
+}
+
+fn is_list(found: &[Text], wanted: &[&str]) -> bool {
+    if found.len() != wanted.len() {
+        return false;
+    }
+    for (text, other) in found.iter().zip(wanted) {
+        if text.as_str() != *other {
+            return false;
+        }
+    }
+    true
 }
 
 fn word(alloc: Global, text: &str) -> Result<Query, AllocError> {

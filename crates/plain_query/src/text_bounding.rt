@@ -1,8 +1,9 @@
 ghost use Rattle.std.specs.Prelude.{◌≡◌, ◌∷◌, [], IfOk, filter, Some};
-ghost use Rattle.doc_meaning.specs.Estimates.{exactly, only_maybe, stand, each_stands, neighbours_stand, word_bounds, text_bounds, prop_word_bounds, prop_text_bounds};
+ghost use Rattle.doc_meaning.specs.Estimates.{exactly, only_maybe, stand, each_stands, neighbours_stand};
+ghost use Rattle.doc_meaning.specs.Estimates.{word_bounds, text_bounds, prop_word_bounds, prop_text_bounds};
 ghost use Rattle.doc_meaning.specs.Strings.{is_owned};
 
-use crate::string_list::copy_name;
+use crate::scalar_list::copy_owner;
 use crate::{is_blind, places, words_seen};
 use doc_meaning::{Bounds, StringNode};
 use doc_model::{Case, Text};
@@ -125,7 +126,7 @@ fn copy_string(alloc: Global, string: &StringNode) -> Result<StringNode, AllocEr
     ensures { IfOk result (λ s. s ≡ string.now) }
 {
     Ok(StringNode {
-        owner: copy_name(alloc, &string.owner)?,
+        owner: copy_owner(alloc, string.owner.as_ref())?,
         text: string.text.copy(alloc)?,
         base: string.base,
     })

@@ -1,4 +1,4 @@
-use Rattle.std.proofs.Common.{◌≡◌, ◌≤◌, List, [], ◌∷◌, length, refl, sym, ap, ◌∙◌, arith}
+use Rattle.std.proofs.Common.{◌≡◌, ◌≤◌, List, [], ◌∷◌, length, refl, ap, ◌∙◌, arith}
 use Rattle.std.specs.List.{list_all}
 use Rattle.doc_meaning.specs.declared.bounds.Bounds.{Bounds}
 use Rattle.doc_meaning.specs.Estimates.{near_bounds, only_maybe}
@@ -10,4 +10,5 @@ many_near (b ∷ []) h = absurd (omega arith)
 many_near (b ∷ c ∷ all) h = refl
 
 pub returns-in_default : goal.returns-in_default
-returns-in_default c = c.only_maybe.ensures ∙ ap only_maybe c.all_maybe.ensures ∙ many_near c.args.all.now c.in_default.len_at_least
+returns-in_default c = c.only_maybe.ensures ∙ ap only_maybe c.all_maybe.ensures
+    ∙ many_near c.args.all.now c.in_default.len_at_least

@@ -3,4 +3,5 @@ use Rattle.doc_meaning.specs.Strings.{is_owned}
 use Rattle.plain_query.proofs.leaves.owned_scalars.Given as goal
 
 abbrev pub invariant-loop-scalar : goal.invariant-loop-scalar
-invariant-loop-scalar l = l.out ≡ map (λ s. s.1) (filter (λ s. is_owned (Some l.names) s.0) (take l.scalar-index l.found))
+invariant-loop-scalar l =
+    l.out ≡ map (λ s. s.1) (filter (λ s. is_owned (Some l.names) s.0) (take l.scalar-index l.found))

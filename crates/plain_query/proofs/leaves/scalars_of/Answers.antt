@@ -5,5 +5,7 @@ use Rattle.plain_query.proofs.leaves.scalars_of.Goals as goal
 
 pub returns : goal.returns
 returns c =
-    let P : List (Owner × Scalar) → Type 0 = λ xs. IfOk c.owned_scalars.result (λ owned. owned ≡ map (λ s. s.1) (filter (λ s. is_owned (Some c.args.names.now) s.0) xs)) in
+    let owned : List (Owner × Scalar) → List Scalar =
+    λ xs. map (λ s. s.1) (filter (λ s. is_owned (Some c.args.names.now) s.0) xs) in
+    let P : List (Owner × Scalar) → Type 0 = λ xs. IfOk c.owned_scalars.result (λ found. found ≡ owned xs) in
     subst P (c.as_slice.ensures ∙ c.in_ok-found.ensures) c.owned_scalars.ensures

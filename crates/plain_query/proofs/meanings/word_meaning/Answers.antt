@@ -1,5 +1,4 @@
 use Rattle.std.proofs.Common.{All, subst, sym, ap, ◌∙◌}
-use Rattle.doc_model.specs.Documents.{PlainDocument}
 use Rattle.doc_meaning.specs.Strings.{strings}
 use Rattle.plain_query.proofs.FitLemmas.{IsNumbered, document_fits, strings_numbered}
 use Rattle.plain_query.proofs.meanings.word_meaning.Goals as goal

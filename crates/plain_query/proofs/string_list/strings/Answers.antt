@@ -8,5 +8,6 @@ use Rattle.plain_query.proofs.string_list.strings.Goals as goal
 pub with_bases-requires : goal.with_bases-requires
 with_bases-requires c =
     let P : List (Owner × List ℕ) → Type 0 = λ texts. sum_by (λ s. length (plain s.1)) texts < 2 ^ 64 in
-    subst P (sym (c.as_slice-2.ensures ∙ c.in_ok-texts.ensures ∙ ap (filter_map text_of) (c.as_slice.ensures ∙ c.in_ok-found.ensures)))
+    subst P (sym (c.as_slice-2.ensures ∙ c.in_ok-texts.ensures
+    ∙ ap (filter_map text_of) (c.as_slice.ensures ∙ c.in_ok-found.ensures)))
     (texts_fit c.args.root.now c.requires)

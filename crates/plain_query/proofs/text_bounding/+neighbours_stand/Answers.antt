@@ -3,7 +3,8 @@ use Rattle.doc_meaning.specs.declared.string_node.StringNode.{StringNode}
 use Rattle.doc_meaning.specs.Estimates.{neighbours_stand}
 use Rattle.plain_query.proofs.text_bounding.+neighbours_stand.Goals as goal
 
-one_stands : (found : List StringNode) (blind : Bool) (words : List (List ℕ)) → length words < 2 → neighbours_stand found blind words ≡ true
+one_stands : (found : List StringNode) (blind : Bool) (words : List (List ℕ)) → length words < 2 →
+    neighbours_stand found blind words ≡ true
 one_stands found blind [] h = refl
 one_stands found blind (w ∷ []) h = refl
 one_stands found blind (v ∷ w ∷ words) h = absurd (omega arith)

@@ -1,4 +1,4 @@
-use Rattle.std.proofs.Common.{rules, arith, sym, ap, ◌∙◌}
+use Rattle.std.proofs.Common.{arith}
 use Rattle.std.proofs.lemmas.Grind.{common_steps}
 use Rattle.plain_query.proofs.PlaceLemmas.{filter_range_push}
 use Rattle.plain_query.proofs.word_places.places.Goals as goal
