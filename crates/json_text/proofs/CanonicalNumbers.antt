@@ -33,7 +33,8 @@ one_digit n lt = record {
   lead = λ some. (48 + n, [], refl, ne_eqb (48 + n) 48 (λ e. omega arith));
 }
 
-long_int : (first : ℕ) (others : List ℕ) (d : ℕ) → (first == 48) ≡ false → list_all is_digit (first ∷ (others ++ d ∷ [])) ≡ true → is_int (first ∷ (others ++ d ∷ [])) ≡ true
+long_int : (first : ℕ) (others : List ℕ) (d : ℕ) → (first == 48) ≡ false → list_all is_digit (first ∷ (others ++ d ∷ [])) ≡ true →
+    is_int (first ∷ (others ++ d ∷ [])) ≡ true
 long_int first [] d ne h = rw ne h
 long_int first (c ∷ others) d ne h = rw ne h
 
@@ -82,7 +83,8 @@ place_below k r lt = div_below (10 ^ k) r (ten_positive k) (subst (λ (n : ℕ).
           | inr large ↦ let h = mul-le-mul_left p large in absurd (omega arith)
         ]
 
-more_places : (k w r : ℕ) (f : List ℕ) → r < 10 ^ suc k → PlacesText k (w * 10 + r / 10 ^ k) (r % 10 ^ k) f → PlacesText (suc k) w r ((48 + r / 10 ^ k) ∷ f)
+more_places : (k w r : ℕ) (f : List ℕ) → r < 10 ^ suc k → PlacesText k (w * 10 + r / 10 ^ k) (r % 10 ^ k) f →
+    PlacesText (suc k) w r ((48 + r / 10 ^ k) ∷ f)
 more_places k w r f lt t =
     let d = r / 10 ^ k in
     let small = place_below k r lt in
@@ -101,7 +103,8 @@ more_places k w r f lt t =
           ∙ ap (λ (x : ℕ). w * x + r) (sym (next_power k));
     }
 
-places_by : (k w r : ℕ) (t : Bool) → (r == 0) ≡ t → PlacesText (suc k) w r (cond t [] ((48 + r / 10 ^ k) ∷ places_text k (r % 10 ^ k))) → PlacesText (suc k) w r (places_text (suc k) r)
+places_by : (k w r : ℕ) (t : Bool) → (r == 0) ≡ t → PlacesText (suc k) w r (cond t [] ((48 + r / 10 ^ k) ∷ places_text k (r % 10 ^ k))) →
+    PlacesText (suc k) w r (places_text (suc k) r)
 unfolding places_text
 places_by k w r t e p = rw e p
 
@@ -117,7 +120,8 @@ places_are zero w r lt = no_places_left zero w r (omega arith)
 places_are (suc k) w r lt =
     by (r == 0) refl (more_places k w r (places_text k (r % 10 ^ k)) lt (places_are k (w * 10 + r / 10 ^ k) (r % 10 ^ k) (let some = ten_positive k in omega arith)))
   where
-    by : (t : Bool) → (r == 0) ≡ t → PlacesText (suc k) w r ((48 + r / 10 ^ k) ∷ places_text k (r % 10 ^ k)) → PlacesText (suc k) w r (places_text (suc k) r)
+    by : (t : Bool) → (r == 0) ≡ t → PlacesText (suc k) w r ((48 + r / 10 ^ k) ∷ places_text k (r % 10 ^ k)) →
+        PlacesText (suc k) w r (places_text (suc k) r)
     by true e p = places_by k w r true e (no_places_left (suc k) w r (eqb-true r 0 e))
     by false e p = places_by k w r false e p
 

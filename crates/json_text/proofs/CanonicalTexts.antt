@@ -77,7 +77,8 @@ plain_spelled c le q s = record {
   means = run_means (encode_utf8 c);
 }
 
-coded_by : (c : ℕ) (t : Bool) → ltb c 32 ≡ t → c ≢ 34 → c ≢ 92 → Spelling c (cond t (92 ∷ 117 ∷ 48 ∷ 48 ∷ low_hex (c / 16) ∷ low_hex (c % 16) ∷ []) (encode_utf8 c))
+coded_by : (c : ℕ) (t : Bool) → ltb c 32 ≡ t → c ≢ 34 → c ≢ 92 →
+    Spelling c (cond t (92 ∷ 117 ∷ 48 ∷ 48 ∷ low_hex (c / 16) ∷ low_hex (c % 16) ∷ []) (encode_utf8 c))
 coded_by c true e q s = control_spelled c (ltb-true c 32 e)
 coded_by c false e q s = plain_spelled c (ltb-false c 32 e) q s
 

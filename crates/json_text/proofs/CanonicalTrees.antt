@@ -59,7 +59,8 @@ names_items list = ap has_distinct_names (sym (node.rolls-Items list)) ∙ fold-
 names : List Member → List (List ℕ)
 names list = map (λ m. m.0) list
 
-names_members : (list : List Member) → has_distinct_names (node.Members list) ≡ (is_distinct (map (λ m. m.0) list) && list_all (λ m. has_distinct_names m.1) list)
+names_members : (list : List Member) →
+    has_distinct_names (node.Members list) ≡ (is_distinct (map (λ m. m.0) list) && list_all (λ m. has_distinct_names m.1) list)
 names_members list = ap has_distinct_names (sym (node.rolls-Members list)) ∙ fold-roll-Node Bool names_step (Node-F.Members list)
     ∙ ap (λ ns. is_distinct ns && list_all (λ (m : List ℕ × Bool). m.1) (map (λ (m : Member). (m.0, has_distinct_names m.1)) list)) (map-map (λ (m : List ℕ × Bool). m.0) (λ (m : Member). (m.0, has_distinct_names m.1)) list)
     ∙ ap (λ b. is_distinct (map (λ (m : Member). m.0) list) && b) (list_all-map (λ (m : List ℕ × Bool). m.1) (λ (m : Member). (m.0, has_distinct_names m.1)) list)
@@ -80,7 +81,8 @@ neither false false e = (refl, refl)
 neither false true e = absurd cc
 neither true b e = absurd cc
 
-fresh_more : (before : List Member) (m : Member) (ms : List Member) → is_among (map (λ k. k.0) ms) m.0 ≡ false → AllFresh before ms → AllFresh (before ++ m ∷ []) ms
+fresh_more : (before : List Member) (m : Member) (ms : List Member) → is_among (map (λ k. k.0) ms) m.0 ≡ false → AllFresh before ms →
+    AllFresh (before ++ m ∷ []) ms
 unfolding AllFresh
 fresh_more before m [] e f = tt
 fresh_more before m (k ∷ ms) e f =
@@ -152,7 +154,8 @@ bare IsText text is = record { before = []; text = text; behind = []; white_befo
 abbrev IsItem : ℕ → List ℕ → Node → Type 0
 IsItem depths part item = Padded (λ text. IsValue depths text item) part
 
-each_item : (depths : ℕ) → ((n : Node) → IsWritten depths n) → (list : List Node) → greatest (map depth list) ≤ depths → list_all has_values list ≡ true → list_all has_distinct_names list ≡ true → Each (IsItem depths) (map node_text list) list
+each_item : (depths : ℕ) → ((n : Node) → IsWritten depths n) → (list : List Node) → greatest (map depth list) ≤ depths →
+    list_all has_values list ≡ true → list_all has_distinct_names list ≡ true → Each (IsItem depths) (map node_text list) list
 unfolding IsWritten
 each_item depths all [] d v n = tt
 each_item depths all (x ∷ xs) d v n =
@@ -160,7 +163,8 @@ each_item depths all (x ∷ xs) d v n =
     let ns = and_true (has_distinct_names x) (list_all has_distinct_names xs) n in
     (bare (λ text. IsValue depths text x) (node_text x) (all x (record { depth = omega arith; values = vs.0; names = ns.0 })), each_item depths all xs (omega arith) vs.1 ns.1)
 
-items_listed : (depths : ℕ) (list : List Node) → Each (IsItem depths) (map node_text list) list → Listed (IsItem depths) (joined (map node_text list)) list
+items_listed : (depths : ℕ) (list : List Node) → Each (IsItem depths) (map node_text list) list →
+    Listed (IsItem depths) (joined (map node_text list)) list
 items_listed depths [] each = refl
 items_listed depths (x ∷ xs) each = (map node_text (x ∷ xs), each, refl)
 
@@ -174,7 +178,8 @@ array_written depths all list w =
     let each = each_item depths all list (omega arith) (sym (values_items list) ∙ w.values) (sym (names_items list) ∙ w.names) in
     inr (inl (list, (joined (map node_text list), items_listed depths list each, items_text list), refl))
 
-each_member : (depths : ℕ) → ((n : Node) → IsWritten depths n) → (list : List Member) → greatest (map (λ m. depth m.1) list) ≤ depths → list_all (λ m. is_utf8 m.0 && has_values m.1) list ≡ true → list_all (λ m. has_distinct_names m.1) list ≡ true →
+each_member : (depths : ℕ) → ((n : Node) → IsWritten depths n) → (list : List Member) → greatest (map (λ m. depth m.1) list) ≤ depths →
+    list_all (λ m. is_utf8 m.0 && has_values m.1) list ≡ true → list_all (λ m. has_distinct_names m.1) list ≡ true →
     Each (IsMember (IsValue depths)) (map member_text list) list
 unfolding IsWritten
 each_member depths all [] d v n = tt
@@ -186,7 +191,8 @@ each_member depths all (m ∷ ms) d v n =
     let value = bare (λ text. IsValue depths text m.1) (node_text m.1) (all m.1 (record { depth = omega arith; values = one.1; names = ns.0 })) in
     ((quoted m.0, node_text m.1, name, value, refl), each_member depths all ms (omega arith) vs.1 ns.1)
 
-members_listed : (depths : ℕ) (list : List Member) → Each (IsMember (IsValue depths)) (map member_text list) list → Listed (IsMember (IsValue depths)) (joined (map member_text list)) list
+members_listed : (depths : ℕ) (list : List Member) → Each (IsMember (IsValue depths)) (map member_text list) list →
+    Listed (IsMember (IsValue depths)) (joined (map member_text list)) list
 members_listed depths [] each = refl
 members_listed depths (m ∷ ms) each = (map member_text (m ∷ ms), each, refl)
 
@@ -206,7 +212,8 @@ Opened n = (z : Node-F Node) × (roll-Node z ≡ n)
 opened : (n : Node) → Opened n
 opened = ind-Node Opened (λ x y is. (x, refl))
 
-rolled_written : (depths : ℕ) (n : Node) → Opened n → ((m : Node) → (list : List Node) → m ≡ node.Items list → IsWritten depths m) → ((m : Node) → (list : List Member) → m ≡ node.Members list → IsWritten depths m) → IsWritten depths n
+rolled_written : (depths : ℕ) (n : Node) → Opened n → ((m : Node) → (list : List Node) → m ≡ node.Items list → IsWritten depths m) →
+    ((m : Node) → (list : List Member) → m ≡ node.Members list → IsWritten depths m) → IsWritten depths n
 rolled_written depths n (Node-F.Null, is) a o = subst (IsWritten depths) (sym node.rolls-Null ∙ is) (null_written depths)
 rolled_written depths n (Node-F.Bool b, is) a o = subst (IsWritten depths) (sym (node.rolls-Bool b) ∙ is) (bool_written depths b)
 rolled_written depths n (Node-F.Num units, is) a o = subst (IsWritten depths) (sym (node.rolls-Num units) ∙ is) (num_written depths units)
@@ -228,5 +235,6 @@ unfolding IsWritten
 text_by depths text n e w = subst (λ (t : List ℕ). Padded (λ u. IsValue depths u n) t) (sym e) (bare (λ u. IsValue depths u n) (node_text n) (node_written depths n w))
 
 -- what is written of a tree is a text of that tree
-pub written_is : (text : List ℕ) (n : Node) → text ≡ node_text n → IsUtf8 text → has_values n ≡ true → depth n ≤ 128 → IsTrue (has_distinct_names n) → IsJson text n
+pub written_is : (text : List ℕ) (n : Node) → text ≡ node_text n → IsUtf8 text → has_values n ≡ true → depth n ≤ 128 → IsTrue (has_distinct_names n) →
+    IsJson text n
 written_is text n e u v d names = (u, text_by 128 text n e (record { depth = d; values = v; names = names }))

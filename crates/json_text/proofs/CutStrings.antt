@@ -1,31 +1,52 @@
 -- What a string that failed says of the bytes before the fault.
-use Rattle.std.proofs.Common.{◌≡◌, ℕ, zero, suc, ◌+◌, ◌*◌, ◌≤◌, ◌==◌, Bool, true, false, ◌&&◌, cond, List, [], ◌∷◌, ◌++◌, length, take, drop, map, Ok, Err, refl, sym, ap, subst, ◌∙◌, append_assoc, arith}
-use Rattle.std.proofs.lemmas.Bool.{eqb-true, and_from}
+use Rattle.std.proofs.Common.{◌≡◌, ℕ, suc, ◌+◌, ◌-◌, ◌*◌, ◌<◌, ◌==◌, inl, inr, Bool, true, false, ◌&&◌, cond, List, [], ◌∷◌, ◌++◌, length, take, drop, map, Some, None, Ok, Err, refl, sym, ap, subst, ◌∙◌, append_assoc, arith}
+use Rattle.std.proofs.lemmas.Bool.{eqb-true, eqb-false, and_from, not-true}
 use Rattle.std.proofs.lemmas.Grind.{flat_map-append}
-use Rattle.std.proofs.lemmas.List.{append-nil, take-append-drop, take-take, length-take}
+use Rattle.std.proofs.lemmas.List.{append-nil, take-append-drop, drop_at, length-take-le, length-drop}
 use Rattle.std.proofs.lemmas.List.Folds.{list_all-append}
-use Rattle.std.proofs.lemmas.Str.{utf8_valid_len_le}
+use Rattle.std.proofs.lemmas.Str.{IsUtf8-nil, utf8_valid_len_le}
 use Rattle.std.specs.Prelude.{IsTrue}
 use Rattle.std.specs.List.{prefix_len, list_all, flat_map}
 use Rattle.std.specs.Char.{encode_utf8}
+use Rattle.std.specs.Str.{IsUtf8}
 use Rattle.std.specs.Str.Lossy.{utf8_valid_len}
 use Rattle.json_text.specs.declared.fault.Fault.{Fault}
 use Rattle.json_text.specs.declared.fault.Fault.TheVariants as fault
-use Rattle.json_text.specs.Strings.{is_plain, is_hex, short_escape, Char, plain, short, unit, is_char, char_text}
-use Rattle.json_text.specs.Faults.{IsQuoted}
+use Rattle.json_text.specs.Strings.{is_plain, is_hex, hex_value, short_escape, Char, plain, short, unit, is_char, char_text}
+use Rattle.json_text.specs.Faults.{LoneHere, IsQuoted}
 use Rattle.json_text.specs.Reading.{◌>>=◌, Read, unexpected, or_fault, hex_of, hex_at, unit_at, char_at, escape_at, end_at, run_at, piece_at, text_at}
 use Rattle.json_text.proofs.Prefix.{prefix_passes}
-use Rattle.json_text.proofs.FoundStrings.{hex_ok, run_is, piece_ok, run_text, run_all}
-use Rattle.json_text.proofs.Cuts.{left_of, Cause, Cut, within, here, behind_here, either_failed, ok_no_err, err_same, or_fault_err, FailedTurns, fails, spent, later, turns_err}
+use Rattle.json_text.proofs.Fronts.{ok_pair, cons_utf8, word_utf8}
+use Rattle.json_text.proofs.Spelled.{stops}
+use Rattle.json_text.proofs.Sequences.{two_parts, valid_front, prefix_stops, run_stops, lone}
+use Rattle.json_text.proofs.FoundStrings.{hex_ok, hex_small, unit_ok, run_is, piece_ok, run_text, run_all}
+use Rattle.json_text.proofs.Machine.{Due, chars as due_chars, escape as due_escape, hex as due_hex, takes, refuses, react, accepts, taken}
+use Rattle.json_text.proofs.AcceptsPlain.{hex_run, chars_run}
+use Rattle.json_text.proofs.Pieces.{piece_shrinks}
+use Rattle.json_text.proofs.Cuts.{left_of, Cause, Alike, Counts, counts_none, Bars, Cut, within, here, behind_here, bars_end, bars_byte, either_failed, ok_no_err, err_same, or_fault_err, FailedTurns, fails, spent, later, turns_err}
 
 -- ---- escapes
 
-hex_err : (bytes : List ℕ) (f : Fault) → hex_at bytes ≡ Err f → unexpected bytes ≡ f
+hex_none : (b : ℕ) (t : Bool) → is_hex b ≡ t → cond t (Some (hex_value b)) None ≡ None → is_hex b ≡ false
+hex_none b true e h = absurd cc
+hex_none b false e h = e
+
+hex_err : (bytes : List ℕ) (f : Fault) → hex_at bytes ≡ Err f → (unexpected bytes ≡ f) × ((stack : List Due) → Bars (due_hex ∷ stack) bytes)
 unfolding hex_at
-hex_err [] f h = err_same {A = ℕ × List ℕ} (unexpected []) f h
+hex_err [] f h = (err_same {A = ℕ × List ℕ} (unexpected []) f h, λ stack. bars_end due_hex stack refl)
 hex_err (b ∷ bytes) f h =
-    either_failed {B = ℕ × List ℕ} (or_fault (unexpected (b ∷ bytes)) (hex_of b)) (λ v. Ok (v, bytes)) f (unexpected (b ∷ bytes) ≡ f)
-    (λ e. (or_fault_err (unexpected (b ∷ bytes)) (hex_of b) f e).0) (λ v e never. absurd (ok_no_err (v, bytes) f never)) h
+    either_failed {B = ℕ × List ℕ} (or_fault (unexpected (b ∷ bytes)) (hex_of b)) (λ v. Ok (v, bytes)) f ((unexpected (b ∷ bytes) ≡ f) × ((stack : List Due) → Bars (due_hex ∷ stack) (b ∷ bytes)))
+    (λ e. let p = or_fault_err (unexpected (b ∷ bytes)) (hex_of b) f e in
+    let no = hex_none b (is_hex b) refl p.1 in
+    (p.0, λ stack. bars_byte due_hex b bytes stack (rw no refl)))
+    (λ v e never. absurd (ok_no_err (v, bytes) f never)) h
+
+-- what is due of four digits, and of the rest of a string
+abbrev four_digits : ℕ → List Due
+four_digits r = due_hex ∷ due_hex ∷ due_hex ∷ due_hex ∷ []
+
+abbrev pub a_string : ℕ → List Due
+a_string r = due_chars ∷ []
 
 abbrev IsFour : List ℕ → Type 0
 IsFour text = (a : ℕ) × (b : ℕ) × (c : ℕ) × (d : ℕ) × IsTrue (is_char (unit a b c d)) × (text ≡ a ∷ b ∷ c ∷ d ∷ [])
@@ -33,18 +54,25 @@ IsFour text = (a : ℕ) × (b : ℕ) × (c : ℕ) × (d : ℕ) × IsTrue (is_cha
 four : (a b c d : Bool) → a ≡ true → b ≡ true → c ≡ true → d ≡ true → (a && b && c && d) ≡ true
 four a b c d e f g h = rw (e, f, g, h) refl
 
-unit_err : (bytes : List ℕ) (f : Fault) → unit_at bytes ≡ Err f → Cut IsFour bytes f
+hex_utf8 : (b : ℕ) (bytes : List ℕ) → is_hex b ≡ true → IsUtf8 bytes → IsUtf8 (b ∷ bytes)
+hex_utf8 b bytes h u = cons_utf8 b bytes (hex_small b h) u
+
+unit_err : (bytes : List ℕ) (f : Fault) → unit_at bytes ≡ Err f → Cut IsFour four_digits 0 bytes f
 unfolding unit_at
 unit_err bytes f h =
-    either_failed {B = ℕ × List ℕ} (hex_at bytes) (λ a. hex_at a.1 >>= λ b. hex_at b.1 >>= λ c. hex_at c.1 >>= λ d. Ok (((a.0 * 16 + b.0) * 16 + c.0) * 16 + d.0, d.1)) f (Cut IsFour bytes f)
-    (λ e. here IsFour bytes (48 ∷ 48 ∷ 48 ∷ 48 ∷ []) f (hex_err bytes f e) (48, 48, 48, 48, refl, refl))
-    (λ x p g. let i = hex_ok bytes x.0 x.1 p in either_failed {B = ℕ × List ℕ} (hex_at x.1) (λ b. hex_at b.1 >>= λ c. hex_at c.1 >>= λ d. Ok (((x.0 * 16 + b.0) * 16 + c.0) * 16 + d.0, d.1)) f (Cut IsFour bytes f)
-    (λ e. behind_here IsFour (i.digit ∷ []) (48 ∷ 48 ∷ 48 ∷ []) bytes x.1 f i.spelled (hex_err x.1 f e) (i.digit, 48, 48, 48, four (is_hex i.digit) true true true i.is refl refl refl, refl))
-    (λ y q k. let j = hex_ok x.1 y.0 y.1 q in either_failed {B = ℕ × List ℕ} (hex_at y.1) (λ c. hex_at c.1 >>= λ d. Ok (((x.0 * 16 + y.0) * 16 + c.0) * 16 + d.0, d.1)) f (Cut IsFour bytes f)
-    (λ e. behind_here IsFour (i.digit ∷ j.digit ∷ []) (48 ∷ 48 ∷ []) bytes y.1 f (i.spelled ∙ ap (λ (t : List ℕ). i.digit ∷ t) j.spelled) (hex_err y.1 f e) (i.digit, j.digit, 48, 48, four (is_hex i.digit) (is_hex j.digit) true true i.is j.is refl refl, refl))
-    (λ z r l. let m = hex_ok y.1 z.0 z.1 r in either_failed {B = ℕ × List ℕ} (hex_at z.1) (λ d. Ok (((x.0 * 16 + y.0) * 16 + z.0) * 16 + d.0, d.1)) f (Cut IsFour bytes f)
-    (λ e. behind_here IsFour (i.digit ∷ j.digit ∷ m.digit ∷ []) (48 ∷ []) bytes z.1 f (i.spelled ∙ ap (λ (t : List ℕ). i.digit ∷ t) (j.spelled ∙ ap (λ (t : List ℕ). j.digit ∷ t) m.spelled)) (hex_err z.1 f e)
-    (i.digit, j.digit, m.digit, 48, four (is_hex i.digit) (is_hex j.digit) (is_hex m.digit) true i.is j.is m.is refl, refl))
+    either_failed {B = ℕ × List ℕ} (hex_at bytes) (λ a. hex_at a.1 >>= λ b. hex_at b.1 >>= λ c. hex_at c.1 >>= λ d. Ok (((a.0 * 16 + b.0) * 16 + c.0) * 16 + d.0, d.1)) f (Cut IsFour four_digits 0 bytes f)
+    (λ e. let h = hex_err bytes f e in here IsFour four_digits 0 bytes (48 ∷ 48 ∷ 48 ∷ 48 ∷ []) f h.0 (48, 48, 48, 48, refl, refl) (λ r stack. h.1 (due_hex ∷ due_hex ∷ due_hex ∷ stack)))
+    (λ x p g. let i = hex_ok bytes x.0 x.1 p in either_failed {B = ℕ × List ℕ} (hex_at x.1) (λ b. hex_at b.1 >>= λ c. hex_at c.1 >>= λ d. Ok (((x.0 * 16 + b.0) * 16 + c.0) * 16 + d.0, d.1)) f (Cut IsFour four_digits 0 bytes f)
+    (λ e. behind_here IsFour four_digits 0 (i.digit ∷ []) (48 ∷ 48 ∷ 48 ∷ []) bytes x.1 f (hex_utf8 i.digit [] i.is IsUtf8-nil) i.spelled (hex_err x.1 f e).0 (i.digit, 48, 48, 48, four (is_hex i.digit) true true true i.is refl refl refl, refl)
+    (λ r le stack others a. hex_run i.digit others (due_hex ∷ due_hex ∷ due_hex ∷ stack) i.is ∙ (hex_err x.1 f e).1 (due_hex ∷ due_hex ∷ stack) others a))
+    (λ y q k. let j = hex_ok x.1 y.0 y.1 q in either_failed {B = ℕ × List ℕ} (hex_at y.1) (λ c. hex_at c.1 >>= λ d. Ok (((x.0 * 16 + y.0) * 16 + c.0) * 16 + d.0, d.1)) f (Cut IsFour four_digits 0 bytes f)
+    (λ e. behind_here IsFour four_digits 0 (i.digit ∷ j.digit ∷ []) (48 ∷ 48 ∷ []) bytes y.1 f (hex_utf8 i.digit (j.digit ∷ []) i.is (hex_utf8 j.digit [] j.is IsUtf8-nil)) (i.spelled ∙ ap (λ (t : List ℕ). i.digit ∷ t) j.spelled) (hex_err y.1 f e).0 (i.digit, j.digit, 48, 48, four (is_hex i.digit) (is_hex j.digit) true true i.is j.is refl refl, refl)
+    (λ r le stack others a. hex_run i.digit (j.digit ∷ others) (due_hex ∷ due_hex ∷ due_hex ∷ stack) i.is ∙ hex_run j.digit others (due_hex ∷ due_hex ∷ stack) j.is ∙ (hex_err y.1 f e).1 (due_hex ∷ stack) others a))
+    (λ z r l. let m = hex_ok y.1 z.0 z.1 r in either_failed {B = ℕ × List ℕ} (hex_at z.1) (λ d. Ok (((x.0 * 16 + y.0) * 16 + z.0) * 16 + d.0, d.1)) f (Cut IsFour four_digits 0 bytes f)
+    (λ e. behind_here IsFour four_digits 0 (i.digit ∷ j.digit ∷ m.digit ∷ []) (48 ∷ []) bytes z.1 f
+    (hex_utf8 i.digit (j.digit ∷ m.digit ∷ []) i.is (hex_utf8 j.digit (m.digit ∷ []) j.is (hex_utf8 m.digit [] m.is IsUtf8-nil))) (i.spelled ∙ ap (λ (t : List ℕ). i.digit ∷ t) (j.spelled ∙ ap (λ (t : List ℕ). j.digit ∷ t) m.spelled)) (hex_err z.1 f e).0
+    (i.digit, j.digit, m.digit, 48, four (is_hex i.digit) (is_hex j.digit) (is_hex m.digit) true i.is j.is m.is refl, refl)
+    (λ r le stack others a. hex_run i.digit (j.digit ∷ m.digit ∷ others) (due_hex ∷ due_hex ∷ due_hex ∷ stack) i.is ∙ hex_run j.digit (m.digit ∷ others) (due_hex ∷ due_hex ∷ stack) j.is ∙ hex_run m.digit others (due_hex ∷ stack) m.is ∙ (hex_err z.1 f e).1 stack others a))
     (λ w s never. absurd (ok_no_err (((x.0 * 16 + y.0) * 16 + z.0) * 16 + w.0, w.1) f never)) l) k) g) h
 
 abbrev IsEscape : List ℕ → Type 0
@@ -54,32 +82,44 @@ new_line : IsEscape (92 ∷ 110 ∷ [])
 new_line = (short 110, refl, refl)
 
 -- the place of a surrogate without its partner is its backslash
-lone_cut : (left : ℕ) (bytes : List ℕ) (f : Fault) → left ≡ length bytes → fault.Utf8 left ≡ f → Cut IsEscape bytes f
-lone_cut left bytes f l e = record {
+lone_cut : (left : ℕ) (bytes : List ℕ) (f : Fault) → left ≡ length bytes → fault.Utf8 left ≡ f → LoneHere bytes → Cut IsEscape a_string 0 bytes f
+lone_cut left bytes f l e alone = record {
   front = [];
   rest = bytes;
   others = 92 ∷ 110 ∷ [];
   spelled = refl;
   left = ap (λ (g : Fault). left_of g) (sym e) ∙ l;
   is = new_line;
-  cause = let none : Cause (fault.Utf8 left) bytes = tt in subst (λ (g : Fault). Cause g bytes) e none;
+  valid = IsUtf8-nil;
+  cause = let cause : Cause (fault.Utf8 left) bytes = inr alone in subst (λ (g : Fault). Cause g bytes) e cause;
+  stuck = λ r k stack others a. absurd (subst (λ (g : Fault). Counts g 0 r) (sym e) k);
 }
 
+no_escape : (b : ℕ) → (b == 117) ≡ false → short_escape b ≡ None → react due_escape b ≡ refuses
+no_escape b n e = rw (n, e) refl
+
 escape_by : (left b : ℕ) (bytes : List ℕ) (f : Fault) (t : Bool) → left ≡ length (92 ∷ b ∷ bytes) → (b == 117) ≡ t →
-    ◌≡◌ {A = Read ℕ} (cond t (unit_at bytes >>= λ u. or_fault (fault.Utf8 left) (char_at u.0 u.1)) (or_fault (unexpected (b ∷ bytes)) (short_escape b) >>= λ c. Ok (c, bytes))) (Err f) → Cut IsEscape (92 ∷ b ∷ bytes) f
+    ◌≡◌ {A = Read ℕ} (cond t (unit_at bytes >>= λ u. or_fault (fault.Utf8 left) (char_at u.0 u.1)) (or_fault (unexpected (b ∷ bytes)) (short_escape b) >>= λ c. Ok (c, bytes))) (Err f) → Cut IsEscape a_string 0 (92 ∷ b ∷ bytes) f
 escape_by left b bytes f true l e h =
-    either_failed {B = ℕ × List ℕ} (unit_at bytes) (λ u. or_fault (fault.Utf8 left) (char_at u.0 u.1)) f (Cut IsEscape (92 ∷ b ∷ bytes) f)
-    (λ g. within IsFour IsEscape (92 ∷ 117 ∷ []) [] (92 ∷ b ∷ bytes) bytes f (ap (λ (x : ℕ). 92 ∷ x ∷ bytes) (eqb-true b 117 e))
-    (λ text is. (unit is.0 is.1 is.2 is.3, is.4, ap (λ (x : List ℕ). 92 ∷ 117 ∷ x) (append-nil text ∙ is.5))) (unit_err bytes f g))
-    (λ u p g. lone_cut left (92 ∷ b ∷ bytes) f l (or_fault_err (fault.Utf8 left) (char_at u.0 u.1) f g).0) h
+    let same : 92 ∷ b ∷ bytes ≡ 92 ∷ 117 ∷ bytes = ap (λ (x : ℕ). 92 ∷ x ∷ bytes) (eqb-true b 117 e) in
+    either_failed {B = ℕ × List ℕ} (unit_at bytes) (λ u. or_fault (fault.Utf8 left) (char_at u.0 u.1)) f (Cut IsEscape a_string 0 (92 ∷ b ∷ bytes) f)
+    (λ g. within IsFour IsEscape a_string four_digits 0 0 (92 ∷ 117 ∷ []) [] (92 ∷ b ∷ bytes) bytes f (word_utf8 (92 ∷ 117 ∷ []) refl) same
+    (λ text is. (unit is.0 is.1 is.2 is.3, is.4, ap (λ (x : List ℕ). 92 ∷ 117 ∷ x) (append-nil text ∙ is.5)))
+    (λ r k stack. (0, due_chars ∷ stack, counts_none f 0 r k, λ x a. taken due_chars 92 (due_escape ∷ due_chars ∷ []) (117 ∷ x) stack refl ∙ taken due_escape 117 (due_hex ∷ due_hex ∷ due_hex ∷ due_hex ∷ []) x (due_chars ∷ stack) refl)) (unit_err bytes f g))
+    (λ u p g. let o = or_fault_err (fault.Utf8 left) (char_at u.0 u.1) f g in
+    lone_cut left (92 ∷ b ∷ bytes) f l o.0 (subst LoneHere (sym same) (lone bytes u.0 u.1 (unit_ok bytes u.0 u.1 p) o.1))) h
 escape_by left b bytes f false l e h =
-    either_failed {B = ℕ × List ℕ} (or_fault (unexpected (b ∷ bytes)) (short_escape b)) (λ c. Ok (c, bytes)) f (Cut IsEscape (92 ∷ b ∷ bytes) f)
-    (λ g. behind_here IsEscape (92 ∷ []) (110 ∷ []) (92 ∷ b ∷ bytes) (b ∷ bytes) f refl (or_fault_err (unexpected (b ∷ bytes)) (short_escape b) f g).0 new_line)
+    either_failed {B = ℕ × List ℕ} (or_fault (unexpected (b ∷ bytes)) (short_escape b)) (λ c. Ok (c, bytes)) f (Cut IsEscape a_string 0 (92 ∷ b ∷ bytes) f)
+    (λ g. let p = or_fault_err (unexpected (b ∷ bytes)) (short_escape b) f g in
+    behind_here IsEscape a_string 0 (92 ∷ []) (110 ∷ []) (92 ∷ b ∷ bytes) (b ∷ bytes) f (word_utf8 (92 ∷ []) refl) refl p.0 new_line
+    (λ r le stack others a. taken due_chars 92 (due_escape ∷ due_chars ∷ []) others stack refl ∙ bars_byte due_escape b bytes (due_chars ∷ stack) (no_escape b e p.1) others a))
     (λ c p never. absurd (ok_no_err (c, bytes) f never)) h
 
-escape_err : (left : ℕ) (bytes : List ℕ) (f : Fault) → left ≡ suc (length bytes) → escape_at left bytes ≡ Err f → Cut IsEscape (92 ∷ bytes) f
+escape_err : (left : ℕ) (bytes : List ℕ) (f : Fault) → left ≡ suc (length bytes) → escape_at left bytes ≡ Err f →
+    Cut IsEscape a_string 0 (92 ∷ bytes) f
 unfolding escape_at
-escape_err left [] f l h = behind_here IsEscape (92 ∷ []) (110 ∷ []) (92 ∷ []) [] f refl (err_same {A = ℕ × List ℕ} (unexpected []) f h) new_line
+escape_err left [] f l h = behind_here IsEscape a_string 0 (92 ∷ []) (110 ∷ []) (92 ∷ []) [] f (word_utf8 (92 ∷ []) refl) refl (err_same {A = ℕ × List ℕ} (unexpected []) f h) new_line
+    (λ r le stack others a. taken due_chars 92 (due_escape ∷ due_chars ∷ []) others stack refl ∙ bars_end due_escape (due_chars ∷ stack) refl others a)
 escape_err left (b ∷ bytes) f l h = escape_by left b bytes f (b == 117) l refl h
 
 -- ---- pieces
@@ -94,53 +134,78 @@ quote_alone = ([], refl, refl)
 escape_rest : (text : List ℕ) → IsEscape text → IsRest ([] ++ (text ++ 34 ∷ []))
 escape_rest text (char, is, e) = (char ∷ [], rw is refl, ap (λ (x : List ℕ). x ++ 34 ∷ []) (e ∙ sym (append-nil (char_text char))))
 
-end_by : (b : ℕ) (bytes : List ℕ) (f : Fault) (q s : Bool) → (b == 92) ≡ s →
-    ◌≡◌ {A = Read (List ℕ × Bool)} (cond q (Ok (([], false), bytes)) (cond s (escape_at (suc (length bytes)) bytes >>= λ c. Ok ((encode_utf8 c.0, true), c.1)) (Err (unexpected (b ∷ bytes))))) (Err f) → Cut IsRest (b ∷ bytes) f
-end_by b bytes f true s e h = absurd cc
-end_by b bytes f false true e h =
-    either_failed {B = (List ℕ × Bool) × List ℕ} (escape_at (suc (length bytes)) bytes) (λ c. Ok ((encode_utf8 c.0, true), c.1)) f (Cut IsRest (b ∷ bytes) f)
-    (λ g. within IsEscape IsRest [] (34 ∷ []) (b ∷ bytes) (92 ∷ bytes) f (ap (λ (x : ℕ). x ∷ bytes) (eqb-true b 92 e)) escape_rest (escape_err (suc (length bytes)) bytes f refl g))
+chars_refuse : (b : ℕ) → (b == 34) ≡ false → (b == 92) ≡ false → is_plain b ≡ false → react due_chars b ≡ refuses
+chars_refuse b q s p =
+    ap (λ (t : Bool). cond t (takes []) (cond (b == 92) (takes (due_escape ∷ due_chars ∷ [])) (cond (is_plain b) (takes (due_chars ∷ [])) refuses))) q
+    ∙ ap (λ (t : Bool). cond t (takes (due_escape ∷ due_chars ∷ [])) (cond (is_plain b) (takes (due_chars ∷ [])) refuses)) s
+    ∙ ap (λ (t : Bool). cond t (takes (due_chars ∷ [])) refuses) p
+
+end_by : (b : ℕ) (bytes : List ℕ) (f : Fault) (q s : Bool) → is_plain b ≡ false → (b == 34) ≡ q → (b == 92) ≡ s →
+    ◌≡◌ {A = Read (List ℕ × Bool)} (cond q (Ok (([], false), bytes)) (cond s (escape_at (suc (length bytes)) bytes >>= λ c. Ok ((encode_utf8 c.0, true), c.1)) (Err (unexpected (b ∷ bytes))))) (Err f) → Cut IsRest a_string 0 (b ∷ bytes) f
+end_by b bytes f true s p d e h = absurd cc
+end_by b bytes f false true p d e h =
+    either_failed {B = (List ℕ × Bool) × List ℕ} (escape_at (suc (length bytes)) bytes) (λ c. Ok ((encode_utf8 c.0, true), c.1)) f (Cut IsRest a_string 0 (b ∷ bytes) f)
+    (λ g. within IsEscape IsRest a_string a_string 0 0 [] (34 ∷ []) (b ∷ bytes) (92 ∷ bytes) f IsUtf8-nil (ap (λ (x : ℕ). x ∷ bytes) (eqb-true b 92 e)) escape_rest
+    (λ r k stack. (r, stack, k, λ x a. refl)) (escape_err (suc (length bytes)) bytes f refl g))
     (λ c p never. absurd (ok_no_err {A = (List ℕ × Bool) × List ℕ} ((encode_utf8 c.0, true), c.1) f never)) h
-end_by b bytes f false false e h = here IsRest (b ∷ bytes) (34 ∷ []) f (err_same {A = (List ℕ × Bool) × List ℕ} (unexpected (b ∷ bytes)) f h) quote_alone
+end_by b bytes f false false p d e h =
+    here IsRest a_string 0 (b ∷ bytes) (34 ∷ []) f (err_same {A = (List ℕ × Bool) × List ℕ} (unexpected (b ∷ bytes)) f h) quote_alone (λ r stack. bars_byte due_chars b bytes stack (chars_refuse b d e p))
 
-end_err : (bytes : List ℕ) (f : Fault) → end_at bytes ≡ Err f → Cut IsRest bytes f
+end_err : (bytes : List ℕ) (f : Fault) → stops is_plain bytes ≡ true → end_at bytes ≡ Err f → Cut IsRest a_string 0 bytes f
 unfolding end_at
-end_err [] f h = here IsRest [] (34 ∷ []) f (err_same {A = (List ℕ × Bool) × List ℕ} (unexpected []) f h) quote_alone
-end_err (b ∷ bytes) f h = end_by b bytes f (b == 34) (b == 92) refl h
+end_err [] f s h = here IsRest a_string 0 [] (34 ∷ []) f (err_same {A = (List ℕ × Bool) × List ℕ} (unexpected []) f h) quote_alone (λ r stack. bars_end due_chars stack refl)
+end_err (b ∷ bytes) f s h = end_by b bytes f (b == 34) (b == 92) (not-true (is_plain b) s) refl refl h
 
-all_take : (p : ℕ → Bool) (n : ℕ) (xs : List ℕ) → list_all p xs ≡ true → list_all p (take n xs) ≡ true
-all_take p zero xs h = refl
-all_take p (suc n) [] h = refl
-all_take p (suc n) (x ∷ xs) h = by (p x) refl h (all_take p n xs)
-  where
-    by : (t : Bool) → p x ≡ t → (t && list_all p xs) ≡ true → (list_all p xs ≡ true → list_all p (take n xs) ≡ true) → (p x && list_all p (take n xs)) ≡ true
-    by true e h ih = rw e (ih h)
-    by false e h ih = absurd cc
+all_front : (p : ℕ → Bool) (front back : List ℕ) → list_all p (front ++ back) ≡ true → list_all p front ≡ true
+all_front p [] back h = refl
+all_front p (b ∷ front) back h =
+    let k = two_parts (p b) (list_all p (front ++ back)) h in
+    let others = all_front p front back k.1 in
+    rw (k.0, others) refl
+
+-- a run that isn't UTF-8: its longest front that is, the rest of it, and what stands behind it
+run_cut : (bytes front bad behind : List ℕ) → bytes ≡ (front ++ bad) ++ behind → list_all is_plain (front ++ bad) ≡ true →
+    utf8_valid_len (front ++ bad) ≡ length front → 0 < length bad →
+    stops is_plain behind ≡ true → IsUtf8 front → Cut IsRest a_string 0 bytes (fault.Utf8 (length (bad ++ behind)))
+run_cut bytes front bad behind spelled plain_run valid some stop u = record {
+  front = front;
+  rest = bad ++ behind;
+  others = 34 ∷ [];
+  spelled = spelled ∙ append_assoc front bad behind;
+  left = refl;
+  is = (map plain front, run_all front ∙ all_front is_plain front bad plain_run, ap (λ (x : List ℕ). x ++ 34 ∷ []) (sym (run_text front)));
+  valid = u;
+  cause = inl (run_stops front bad behind valid some stop);
+  stuck = λ r k stack others a. absurd k;
+}
 
 run_by : (bytes : List ℕ) (f : Fault) (t : Bool) →
-    ◌≡◌ {A = Read (List ℕ)} (cond t (Ok (take (prefix_len is_plain bytes) bytes, drop (prefix_len is_plain bytes) bytes)) (Err (fault.Utf8 (length (drop (utf8_valid_len (take (prefix_len is_plain bytes) bytes)) bytes))))) (Err f) → Cut IsRest bytes f
-run_by bytes f true h = absurd cc
-run_by bytes f false h =
+    (utf8_valid_len (take (prefix_len is_plain bytes) bytes) == length (take (prefix_len is_plain bytes) bytes)) ≡ t →
+    ◌≡◌ {A = Read (List ℕ)} (cond t (Ok (take (prefix_len is_plain bytes) bytes, drop (prefix_len is_plain bytes) bytes)) (Err (fault.Utf8 (length (drop (utf8_valid_len (take (prefix_len is_plain bytes) bytes)) bytes))))) (Err f) → Cut IsRest a_string 0 bytes f
+run_by bytes f true e h = absurd cc
+run_by bytes f false e h =
     let n = prefix_len is_plain bytes in
-    let valid = utf8_valid_len (take n bytes) in
-    let e = err_same {A = List ℕ × List ℕ} (fault.Utf8 (length (drop valid bytes))) f h in
-    let le : valid ≤ n = omega (arith, utf8_valid_len_le (take n bytes), length-take n bytes) in
-    let plain_run : list_all is_plain (take n bytes) ≡ true = prefix_passes is_plain bytes (take n bytes) n refl refl in
-    let plain_front : list_all is_plain (take valid bytes) ≡ true = subst (λ (x : List ℕ). list_all is_plain x ≡ true) (take-take valid n bytes le) (all_take is_plain valid (take n bytes) plain_run) in
-    let none : Cause (fault.Utf8 (length (drop valid bytes))) (drop valid bytes) = tt in
-    record {
-      front = take valid bytes;
-      rest = drop valid bytes;
-      others = 34 ∷ [];
-      spelled = sym (take-append-drop valid bytes);
-      left = ap (λ (g : Fault). left_of g) (sym e);
-      is = (map plain (take valid bytes), run_all (take valid bytes) ∙ plain_front, ap (λ (x : List ℕ). x ++ 34 ∷ []) (sym (run_text (take valid bytes))));
-      cause = subst (λ (g : Fault). Cause g (drop valid bytes)) e none;
-    }
+    let run = take n bytes in
+    let valid = utf8_valid_len run in
+    let le = utf8_valid_len_le run in
+    let ne = eqb-false valid (length run) e in
+    let front = take valid run in
+    let bad = drop valid run in
+    let behind = drop n bytes in
+    let whole : front ++ bad ≡ run = take-append-drop valid run in
+    let front_len : length front ≡ valid = length-take-le valid run le in
+    let bad_len : length bad ≡ length run - valid = length-drop valid run in
+    let some : 0 < length bad = omega arith in
+    let spelled : bytes ≡ (front ++ bad) ++ behind = sym (take-append-drop n bytes) ∙ ap (λ (x : List ℕ). x ++ behind) (sym whole) in
+    let plain_run : list_all is_plain (front ++ bad) ≡ true = subst (λ (x : List ℕ). list_all is_plain x ≡ true) (sym whole) (prefix_passes is_plain bytes run n refl refl) in
+    let is_valid : utf8_valid_len (front ++ bad) ≡ length front = ap (λ (x : List ℕ). utf8_valid_len x) whole ∙ sym front_len in
+    let c = run_cut bytes front bad behind spelled plain_run is_valid some (prefix_stops is_plain bytes) (valid_front run) in
+    let left : drop valid bytes ≡ bad ++ behind = ap (λ (x : List ℕ). drop valid x) (spelled ∙ append_assoc front bad behind) ∙ drop_at front (bad ++ behind) valid front_len in
+    subst (λ (g : Fault). Cut IsRest a_string 0 bytes g) (ap (λ (x : List ℕ). fault.Utf8 (length x)) (sym left) ∙ err_same {A = List ℕ × List ℕ} (fault.Utf8 (length (drop valid bytes))) f h) c
 
-run_err : (bytes : List ℕ) (f : Fault) → run_at bytes ≡ Err f → Cut IsRest bytes f
+run_err : (bytes : List ℕ) (f : Fault) → run_at bytes ≡ Err f → Cut IsRest a_string 0 bytes f
 unfolding run_at
-run_err bytes f h = run_by bytes f (utf8_valid_len (take (prefix_len is_plain bytes) bytes) == length (take (prefix_len is_plain bytes) bytes)) h
+run_err bytes f h = run_by bytes f (utf8_valid_len (take (prefix_len is_plain bytes) bytes) == length (take (prefix_len is_plain bytes) bytes)) refl h
 
 -- characters before the rest of a string
 more_chars : (chars : List Char) → list_all is_char chars ≡ true → (text : List ℕ) → IsRest text → IsRest (flat_map char_text chars ++ (text ++ []))
@@ -152,25 +217,46 @@ more_chars chars h text (others, are, e) = (
       ∙ ap (λ (x : List ℕ). x ++ 34 ∷ []) (sym (flat_map-append char_text chars others)),
 )
 
-piece_err : (bytes : List ℕ) (f : Fault) → piece_at bytes ≡ Err f → Cut IsRest bytes f
+run_stop_by : (bytes run rest : List ℕ) (f : Fault) (t : Bool) →
+    ◌≡◌ {A = Read (List ℕ)} (cond t (Ok (take (prefix_len is_plain bytes) bytes, drop (prefix_len is_plain bytes) bytes)) (Err f)) (Ok (run, rest)) →
+    stops is_plain rest ≡ true
+run_stop_by bytes run rest f true h =
+    let (made, left) = ok_pair (take (prefix_len is_plain bytes) bytes) run (drop (prefix_len is_plain bytes) bytes) rest h in
+    subst (λ (x : List ℕ). stops is_plain x ≡ true) left (prefix_stops is_plain bytes)
+run_stop_by bytes run rest f false h = absurd cc
+
+-- a run ends where no plain character goes on
+run_stop : (bytes run rest : List ℕ) → run_at bytes ≡ Ok (run, rest) → stops is_plain rest ≡ true
+unfolding run_at
+run_stop bytes run rest h =
+    let n = prefix_len is_plain bytes in
+    run_stop_by bytes run rest (fault.Utf8 (length (drop (utf8_valid_len (take n bytes)) bytes))) (utf8_valid_len (take n bytes) == length (take n bytes)) h
+
+-- characters are gone over
+over_chars : (cs : List Char) → list_all is_char cs ≡ true → (f : Fault) (inner : List ℕ) (r : ℕ) → Counts f 0 r → (stack : List Due) →
+    (q : ℕ) × (more : List Due) × Counts f 0 q × ((x : List ℕ) → Alike inner x → accepts (flat_map char_text cs ++ x) (a_string r ++ stack) ≡ accepts x (a_string q ++ more))
+over_chars cs are f inner r k stack = (r, stack, k, λ x a. chars_run cs x stack are)
+
+piece_err : (bytes : List ℕ) (f : Fault) → piece_at bytes ≡ Err f → Cut IsRest a_string 0 bytes f
 unfolding piece_at
 piece_err bytes f h =
-    either_failed {B = (List ℕ × Bool) × List ℕ} (run_at bytes) (λ run. end_at run.1 >>= λ end. Ok ((run.0 ++ end.0.0, end.0.1), end.1)) f (Cut IsRest bytes f)
+    either_failed {B = (List ℕ × Bool) × List ℕ} (run_at bytes) (λ run. end_at run.1 >>= λ end. Ok ((run.0 ++ end.0.0, end.0.1), end.1)) f (Cut IsRest a_string 0 bytes f)
     (λ e. run_err bytes f e)
-    (λ x p g. either_failed {B = (List ℕ × Bool) × List ℕ} (end_at x.1) (λ end. Ok ((x.0 ++ end.0.0, end.0.1), end.1)) f (Cut IsRest bytes f)
-    (λ e. let c = run_is bytes x.0 x.1 p in within IsRest IsRest (flat_map char_text c.chars) [] bytes x.1 f c.spelled (more_chars c.chars c.are) (end_err x.1 f e))
+    (λ x p g. either_failed {B = (List ℕ × Bool) × List ℕ} (end_at x.1) (λ end. Ok ((x.0 ++ end.0.0, end.0.1), end.1)) f (Cut IsRest a_string 0 bytes f)
+    (λ e. let c = run_is bytes x.0 x.1 p in
+    within IsRest IsRest a_string a_string 0 0 (flat_map char_text c.chars) [] bytes x.1 f c.valid c.spelled (more_chars c.chars c.are) (over_chars c.chars c.are f x.1) (end_err x.1 f (run_stop bytes x.0 x.1 p) e))
     (λ y q never. absurd (ok_no_err {A = (List ℕ × Bool) × List ℕ} ((x.0 ++ y.0.0, y.0.1), y.1) f never)) g) h
 
-text_turns : (f : Fault) (bytes : List ℕ) → FailedTurns piece_at f bytes → Cut IsRest bytes f
+text_turns : (f : Fault) (bytes : List ℕ) → FailedTurns piece_at f bytes → Cut IsRest a_string 0 bytes f
 text_turns f bytes (fails _ e) = piece_err bytes f e
-text_turns f bytes (spent _ e) = here IsRest bytes (34 ∷ []) f e quote_alone
+text_turns f bytes (spent _ none e) = here IsRest a_string 0 bytes (34 ∷ []) f e quote_alone (λ r stack. subst (λ (x : List ℕ). Bars (due_chars ∷ stack) x) (sym none) (bars_end due_chars stack refl))
 text_turns f bytes (later _ ys rest e turns) =
     let c = piece_ok bytes ys true rest e in
-    within IsRest IsRest (flat_map char_text c.chars) [] bytes rest f c.spelled (more_chars c.chars c.are) (text_turns f rest turns)
+    within IsRest IsRest a_string a_string 0 0 (flat_map char_text c.chars) [] bytes rest f c.valid c.spelled (more_chars c.chars c.are) (over_chars c.chars c.are f rest) (text_turns f rest turns)
 
-pub text_err : (bytes : List ℕ) (f : Fault) → text_at bytes ≡ Err f → Cut IsRest bytes f
+pub text_err : (bytes : List ℕ) (f : Fault) → text_at bytes ≡ Err f → Cut IsRest a_string 0 bytes f
 unfolding text_at
-text_err bytes f h = text_turns f bytes (turns_err piece_at (length bytes) f bytes h)
+text_err bytes f h = text_turns f bytes (turns_err piece_at piece_shrinks (length bytes) f bytes (omega arith) h)
 
 -- a quotation mark before it makes it a string
 pub rest_quoted : (text : List ℕ) → IsRest text → IsQuoted (34 ∷ text)

@@ -1,17 +1,19 @@
 -- What a reading that failed says of the bytes before the fault and at it.
-use Rattle.std.proofs.Common.{◌≡◌, ℕ, zero, suc, ℤ, ◌==◌, ◌⊎◌, inl, inr, Bool, true, false, ◌&&◌, not, cond, List, [], ◌∷◌, ◌++◌, length, take, drop, Option, Some, None, Result, Ok, Err, refl, sym, ap, subst, ◌∙◌, append_assoc}
-use Rattle.std.proofs.lemmas.Bool.{eqb-true}
+use Rattle.std.proofs.Common.{◌≡◌, ℕ, zero, suc, ◌<◌, ◌≤◌, ◌==◌, ◌⊎◌, inl, inr, Bool, true, false, ◌&&◌, not, cond, List, [], ◌∷◌, ◌++◌, length, map, Option, Some, None, Result, Ok, Err, refl, sym, ap, subst, ◌∙◌, append_assoc, arith}
 use Rattle.std.proofs.lemmas.List.{append-nil}
-use Rattle.std.specs.Prelude.{IsTrue}
-use Rattle.std.specs.List.{prefix_len}
+use Rattle.std.proofs.lemmas.Str.{IsUtf8-append, IsUtf8-nil}
+use Rattle.std.specs.Prelude.{nat_lt}
+use Rattle.std.specs.List.{list_all}
+use Rattle.std.specs.Str.{IsUtf8, IsValidUpTo}
 use Rattle.std.specs.Str.Lossy.{utf8_valid_len}
 use Rattle.json_text.specs.declared.fault.Fault.{Fault}
 use Rattle.json_text.specs.declared.fault.Fault.TheVariants as fault
-use Rattle.json_text.specs.Numbers.{is_digit, is_exponent_letter, is_sign, Literal, IsLiteral, literal_text, fraction_text, exponent_text, worth, IsNumber}
-use Rattle.json_text.specs.Faults.{IsNumeral, NumberHere, BracketHere}
-use Rattle.json_text.specs.Reading.{◌>>=◌, Read, unexpected, or_fault, strip, byte_at, word_at, repeated, turn, with_front, digits_at, int_at, fraction_at, exponent_at, sign_of, minus_of, number_at}
-use Rattle.json_text.proofs.Fronts.{byte_ok}
-use Rattle.json_text.proofs.FoundNumbers.{int_ok, fraction_ok, exponent_ok, sign_is, minus_is}
+use Rattle.json_text.specs.Faults.{LoneHere, NumberHere, BracketHere}
+use Rattle.json_text.specs.Reading.{◌>>=◌, Read, unexpected, or_fault, strip, byte_at, word_at, repeated, turn, with_front}
+use Rattle.json_text.proofs.Fronts.{byte_ok, below_128, cons_utf8}
+use Rattle.json_text.proofs.Spelled.{stops}
+use Rattle.json_text.proofs.Machine.{Due, byte, refuses, may_end, react, accepts, missing, refused, byte_run}
+use Rattle.json_text.proofs.Sequences.{no_character, some_character, two_parts}
 
 -- how many bytes are left at a fault's place
 abbrev pub left_of : Fault → ℕ
@@ -21,48 +23,111 @@ left_of (fault.Depth n) = n
 left_of (fault.Number n) = n
 
 abbrev pub Cause : Fault → List ℕ → Type 0
-Cause (fault.Syntax n) rest = Unit {0}
-Cause (fault.Utf8 n) rest = Unit {0}
+Cause (fault.Syntax n) rest = IsValidUpTo rest 0 → ⊥
+Cause (fault.Utf8 n) rest = IsValidUpTo rest 0 ⊎ LoneHere rest
 Cause (fault.Depth n) rest = BracketHere rest
 Cause (fault.Number n) rest = NumberHere rest
 
--- what stands before the fault can be made whole
-pub record Cut (IsText : List ℕ → Type 0) (bytes : List ℕ) (f : Fault) : Type 0 where
+-- the same first byte, or no byte
+abbrev pub Alike : List ℕ → List ℕ → Type 0
+Alike [] others = others ≡ []
+Alike (b ∷ bytes) others = (more : List ℕ) × (others ≡ b ∷ more)
+
+pub alike_same : (bytes : List ℕ) → Alike bytes bytes
+alike_same [] = refl
+alike_same (b ∷ bytes) = (bytes, refl)
+
+pub alike_behind : (front rest others : List ℕ) → Alike rest others → Alike (front ++ rest) (front ++ others)
+alike_behind [] rest others a = a
+alike_behind (b ∷ front) rest others a = (front ++ others, refl)
+
+pub alike_in : (bytes front rest others : List ℕ) → bytes ≡ front ++ rest → Alike rest others → Alike bytes (front ++ others)
+alike_in bytes front rest others e a = subst (λ (x : List ℕ). Alike x (front ++ others)) (sym e) (alike_behind front rest others a)
+
+pub alike_stops : (p : ℕ → Bool) (rest others : List ℕ) → Alike rest others → stops p rest ≡ true → stops p others ≡ true
+alike_stops p [] others a s = ap (λ (x : List ℕ). stops p x) a
+alike_stops p (b ∷ rest) others (more, e) s = ap (λ (x : List ℕ). stops p x) e ∙ s
+
+-- the bytes in front can't go on so, whatever stands behind the next one
+abbrev pub Stuck : List Due → List ℕ → List ℕ → Type 0
+Stuck stack front rest = (others : List ℕ) → Alike rest others → accepts (front ++ others) stack ≡ false
+
+-- the room for which a fault that stands in this much is one too
+abbrev pub Counts : Fault → ℕ → ℕ → Type 0
+Counts (fault.Syntax n) room r = room ≤ r
+Counts (fault.Depth n) room r = r ≡ room
+Counts (fault.Utf8 n) room r = ⊥
+Counts (fault.Number n) room r = ⊥
+
+pub counts_none : (f : Fault) (room r : ℕ) → Counts f room r → Counts f 0 0
+counts_none (fault.Syntax n) room r c = omega arith
+counts_none (fault.Depth n) room r c = refl
+counts_none (fault.Utf8 n) room r c = c
+counts_none (fault.Number n) room r c = c
+
+pub counts_le : (f : Fault) (room r : ℕ) → Counts f room r → room ≤ r
+counts_le (fault.Syntax n) room r c = c
+counts_le (fault.Depth n) room r c = omega arith
+counts_le (fault.Utf8 n) room r c = absurd c
+counts_le (fault.Number n) room r c = absurd c
+
+-- what stands before the fault can be made whole, and goes on with no other byte than the one at it
+pub record Cut (IsText : List ℕ → Type 0) (due : ℕ → List Due) (room : ℕ) (bytes : List ℕ) (f : Fault) : Type 0 where
   pub front : List ℕ
   pub rest : List ℕ
   pub others : List ℕ
   pub spelled : bytes ≡ front ++ rest
   pub left : left_of f ≡ length rest
   pub is : IsText (front ++ others)
+  pub valid : IsUtf8 front
   pub cause : Cause f rest
+  pub stuck : (r : ℕ) → Counts f room r → (stack : List Due) → Stuck (due r ++ stack) front rest
 
 regroup : (before front others behind : List ℕ) → (before ++ front) ++ (others ++ behind) ≡ before ++ (front ++ others ++ behind)
 regroup before front others behind = simp append_assoc
 
 -- the whole of which a part fails
-pub within : (IsPart IsText : List ℕ → Type 0) (before behind bytes inner : List ℕ) (f : Fault) → bytes ≡ before ++ inner → ((text : List ℕ) → IsPart text → IsText (before ++ (text ++ behind))) → Cut IsPart inner f → Cut IsText bytes f
-within IsPart IsText before behind bytes inner f e whole c = record {
+pub within : (IsPart IsText : List ℕ → Type 0) (due part_due : ℕ → List Due) (room part_room : ℕ) (before behind bytes inner : List ℕ) (f : Fault) →
+    IsUtf8 before → bytes ≡ before ++ inner →
+    ((text : List ℕ) → IsPart text → IsText (before ++ (text ++ behind))) →
+    ((r : ℕ) → Counts f room r → (stack : List Due) → (q : ℕ) × (more : List Due) × Counts f part_room q × ((x : List ℕ) → Alike inner x → accepts (before ++ x) (due r ++ stack) ≡ accepts x (part_due q ++ more))) →
+    Cut IsPart part_due part_room inner f → Cut IsText due room bytes f
+within IsPart IsText due part_due room part_room before behind bytes inner f valid e whole leads c = record {
   front = before ++ c.front;
   rest = c.rest;
   others = c.others ++ behind;
   spelled = e ∙ ap (λ (x : List ℕ). before ++ x) c.spelled ∙ sym (append_assoc before c.front c.rest);
   left = c.left;
   is = subst IsText (sym (regroup before c.front c.others behind)) (whole (c.front ++ c.others) c.is);
+  valid = IsUtf8-append before c.front valid c.valid;
   cause = c.cause;
+  stuck = λ r k stack others a.
+      let (q, more, counts, runs) = leads r k stack in
+      ap (λ (x : List ℕ). accepts x (due r ++ stack)) (append_assoc before c.front others)
+      ∙ runs (c.front ++ others) (alike_in inner c.front c.rest others c.spelled a)
+      ∙ c.stuck q counts more others a;
 }
 
 -- what is less is told too
-pub cut_as : (IsPart IsText : List ℕ → Type 0) (bytes : List ℕ) (f : Fault) → ((text : List ℕ) → IsPart text → IsText text) → Cut IsPart bytes f → Cut IsText bytes f
-cut_as IsPart IsText bytes f to c = record { front = c.front; rest = c.rest; others = c.others; spelled = c.spelled; left = c.left; is = to (c.front ++ c.others) c.is; cause = c.cause }
+pub cut_as : (IsPart IsText : List ℕ → Type 0) (due : ℕ → List Due) (room : ℕ) (bytes : List ℕ) (f : Fault) →
+    ((text : List ℕ) → IsPart text → IsText text) → Cut IsPart due room bytes f → Cut IsText due room bytes f
+cut_as IsPart IsText due room bytes f to c =
+    record { front = c.front; rest = c.rest; others = c.others; spelled = c.spelled; left = c.left; is = to (c.front ++ c.others) c.is; valid = c.valid; cause = c.cause; stuck = c.stuck }
 
-unexpected_by : (bytes : List ℕ) (t : Bool) → (left_of (cond t (fault.Utf8 (length bytes)) (fault.Syntax (length bytes))) ≡ length bytes) × Cause (cond t (fault.Utf8 (length bytes)) (fault.Syntax (length bytes))) bytes
-unexpected_by bytes true = (refl, tt)
-unexpected_by bytes false = (refl, tt)
+unexpected_by : (bytes : List ℕ) (t : Bool) → ((utf8_valid_len bytes == 0) && not (length bytes == 0)) ≡ t →
+    (left_of (cond t (fault.Utf8 (length bytes)) (fault.Syntax (length bytes))) ≡ length bytes) × Cause (cond t (fault.Utf8 (length bytes)) (fault.Syntax (length bytes))) bytes
+unexpected_by bytes true h = (refl, inl (no_character bytes h))
+unexpected_by bytes false h = (refl, some_character bytes h)
+
+-- it refuses the first byte, or the end
+abbrev pub Bars : List Due → List ℕ → Type 0
+Bars stack bytes = Stuck stack [] bytes
 
 -- nothing fits here
-pub here : (IsText : List ℕ → Type 0) (bytes others : List ℕ) (f : Fault) → unexpected bytes ≡ f → IsText others → Cut IsText bytes f
-here IsText bytes others f e is =
-    let u = unexpected_by bytes ((utf8_valid_len bytes == 0) && not (length bytes == 0)) in
+pub here : (IsText : List ℕ → Type 0) (due : ℕ → List Due) (room : ℕ) (bytes others : List ℕ) (f : Fault) → unexpected bytes ≡ f → IsText others →
+    ((r : ℕ) (stack : List Due) → Bars (due r ++ stack) bytes) → Cut IsText due room bytes f
+here IsText due room bytes others f e is bars =
+    let u = unexpected_by bytes ((utf8_valid_len bytes == 0) && not (length bytes == 0)) refl in
     record {
       front = [];
       rest = bytes;
@@ -70,20 +135,44 @@ here IsText bytes others f e is =
       spelled = refl;
       left = subst (λ (g : Fault). left_of g ≡ length bytes) e u.0;
       is = is;
+      valid = IsUtf8-nil;
       cause = subst (λ (g : Fault). Cause g bytes) e u.1;
+      stuck = λ r k stack. bars r stack;
     }
 
 -- before these bytes, of which a whole is made
-pub behind_here : (IsText : List ℕ → Type 0) (before others bytes rest : List ℕ) (f : Fault) → bytes ≡ before ++ rest → unexpected rest ≡ f → IsText (before ++ others) → Cut IsText bytes f
-behind_here IsText before others bytes rest f spelled e is =
-    within (λ text. text ≡ others) IsText before [] bytes rest f spelled (λ text same. subst (λ (x : List ℕ). IsText (before ++ x)) (sym (append-nil text ∙ same)) is) (here (λ text. text ≡ others) rest others f e refl)
+pub behind_here : (IsText : List ℕ → Type 0) (due : ℕ → List Due) (room : ℕ) (before others bytes rest : List ℕ) (f : Fault) → IsUtf8 before →
+    bytes ≡ before ++ rest → unexpected rest ≡ f → IsText (before ++ others) →
+    ((r : ℕ) → room ≤ r → (stack : List Due) → Stuck (due r ++ stack) before rest) → Cut IsText due room bytes f
+behind_here IsText due room before others bytes rest f valid spelled e is stuck =
+    let u = unexpected_by rest ((utf8_valid_len rest == 0) && not (length rest == 0)) refl in
+    record {
+      front = before;
+      rest = rest;
+      others = others;
+      spelled = spelled;
+      left = subst (λ (g : Fault). left_of g ≡ length rest) e u.0;
+      is = is;
+      valid = valid;
+      cause = subst (λ (g : Fault). Cause g rest) e u.1;
+      stuck = λ r k stack. stuck r (counts_le f room r k) stack;
+    }
+
+-- it refuses what it doesn't take
+pub bars_end : (x : Due) (stack : List Due) → may_end x ≡ false → Bars (x ∷ stack) []
+bars_end x stack e others a = ap (λ (y : List ℕ). accepts y (x ∷ stack)) a ∙ missing x stack e
+
+pub bars_byte : (x : Due) (b : ℕ) (bytes : List ℕ) (stack : List Due) → react x b ≡ refuses → Bars (x ∷ stack) (b ∷ bytes)
+bars_byte x b bytes stack e others (more, a) = ap (λ (y : List ℕ). accepts y (x ∷ stack)) a ∙ refused x b more stack e
 
 -- one of two steps failed
-pub failed : {A B : Type 0} (r : Result A Fault) (g : A → Result B Fault) (f : Fault) → (r >>= g) ≡ Err f → (r ≡ Err f) ⊎ ((x : A) × (r ≡ Ok x) × (g x ≡ Err f))
+pub failed : {A B : Type 0} (r : Result A Fault) (g : A → Result B Fault) (f : Fault) → (r >>= g) ≡ Err f →
+    (r ≡ Err f) ⊎ ((x : A) × (r ≡ Ok x) × (g x ≡ Err f))
 failed {A = A} (Ok x) g f h = inr (x, refl, h)
 failed {A = A} (Err e) g f h = let same : e ≡ f = cc in inl (ap (λ (y : Fault). Err y) same)
 
-pub either_failed : {A B : Type 0} (r : Result A Fault) (g : A → Result B Fault) (f : Fault) (C : Type 0) → (r ≡ Err f → C) → ((x : A) → r ≡ Ok x → g x ≡ Err f → C) → (r >>= g) ≡ Err f → C
+pub either_failed : {A B : Type 0} (r : Result A Fault) (g : A → Result B Fault) (f : Fault) (C : Type 0) → (r ≡ Err f → C) →
+    ((x : A) → r ≡ Ok x → g x ≡ Err f → C) → (r >>= g) ≡ Err f → C
 either_failed {A = A} {B = B} (Ok x) g f C first second h = second x refl h
 either_failed {A = A} {B = B} (Err e) g f C first second h = let same : e ≡ f = cc in first (ap (λ (y : Fault). Err y) same)
 
@@ -97,195 +186,68 @@ pub or_fault_err : {X : Type 0} (e : Fault) (o : Option X) (f : Fault) → or_fa
 or_fault_err {X = X} e None f h = (cc, refl)
 or_fault_err {X = X} e (Some x) f h = absurd cc
 
-pub byte_err : (w : ℕ) (bytes : List ℕ) (f : Fault) → byte_at w bytes ≡ Err f → unexpected bytes ≡ f
-byte_err w bytes f h = (or_fault_err (unexpected bytes) (strip w bytes) f h).0
+strip_none : (w b : ℕ) (bytes : List ℕ) (t : Bool) → (b == w) ≡ t → cond t (Some bytes) None ≡ None → react (byte w) b ≡ refuses
+strip_none w b bytes true e h = absurd cc
+strip_none w b bytes false e h = rw e refl
 
-pub word_err : (word bytes : List ℕ) (f : Fault) → word_at word bytes ≡ Err f → Cut (λ text. text ≡ word) bytes f
+-- another byte stands here, or none
+bars_strip : (w : ℕ) (bytes : List ℕ) (stack : List Due) → strip w bytes ≡ None → Bars (byte w ∷ stack) bytes
+bars_strip w [] stack h = bars_end (byte w) stack refl
+bars_strip w (b ∷ bytes) stack h = bars_byte (byte w) b bytes stack (strip_none w b bytes (b == w) refl h)
+
+pub byte_err : (w : ℕ) (bytes : List ℕ) (f : Fault) → byte_at w bytes ≡ Err f →
+    (unexpected bytes ≡ f) × ((stack : List Due) → Bars (byte w ∷ stack) bytes)
+byte_err w bytes f h =
+    let p = or_fault_err (unexpected bytes) (strip w bytes) f h in
+    (p.0, λ stack. bars_strip w bytes stack p.1)
+
+-- what is due of a word
+abbrev pub spelling : List ℕ → ℕ → List Due
+spelling word r = map byte word
+
+pub word_err : (room : ℕ) (word bytes : List ℕ) (f : Fault) → list_all (λ b. nat_lt b 128) word ≡ true → word_at word bytes ≡ Err f →
+    Cut (λ text. text ≡ word) (spelling word) room bytes f
 unfolding word_at
-word_err [] bytes f h = absurd cc
-word_err (w ∷ word) bytes f h = by (failed (byte_at w bytes) (λ behind. word_at word behind) f h) (λ behind. word_err word behind f)
+word_err room [] bytes f small h = absurd cc
+word_err room (w ∷ word) bytes f small h =
+    let p = two_parts (nat_lt w 128) (list_all (λ b. nat_lt b 128) word) small in
+    by (cons_utf8 w [] (below_128 w p.0) IsUtf8-nil) (failed (byte_at w bytes) (λ behind. word_at word behind) f h) (λ behind. word_err room word behind f p.1)
   where
-    by : ((byte_at w bytes ≡ Err f) ⊎ ((x : List ℕ) × (byte_at w bytes ≡ Ok x) × (word_at word x ≡ Err f))) → ((behind : List ℕ) → word_at word behind ≡ Err f → Cut (λ text. text ≡ word) behind f) → Cut (λ text. text ≡ w ∷ word) bytes f
-    by (inl e) ih = here (λ text. text ≡ w ∷ word) bytes (w ∷ word) f (byte_err w bytes f e) refl
-    by (inr (behind, e, g)) ih = within (λ text. text ≡ word) (λ text. text ≡ w ∷ word) (w ∷ []) [] bytes behind f (byte_ok w bytes behind e) (λ text is. ap (λ (x : List ℕ). w ∷ x) (append-nil text ∙ is)) (ih behind g)
+    by : IsUtf8 (w ∷ []) → ((byte_at w bytes ≡ Err f) ⊎ ((x : List ℕ) × (byte_at w bytes ≡ Ok x) × (word_at word x ≡ Err f))) →
+        ((behind : List ℕ) → word_at word behind ≡ Err f → Cut (λ text. text ≡ word) (spelling word) room behind f) → Cut (λ text. text ≡ w ∷ word) (spelling (w ∷ word)) room bytes f
+    by valid (inl e) ih = let b = byte_err w bytes f e in here (λ text. text ≡ w ∷ word) (spelling (w ∷ word)) room bytes (w ∷ word) f b.0 refl (λ r stack. b.1 (map byte word ++ stack))
+    by valid (inr (behind, e, g)) ih =
+        within (λ text. text ≡ word) (λ text. text ≡ w ∷ word) (spelling (w ∷ word)) (spelling word) room room (w ∷ []) [] bytes behind f valid (byte_ok w bytes behind e)
+        (λ text is. ap (λ (x : List ℕ). w ∷ x) (append-nil text ∙ is)) (λ r k stack. (r, stack, k, λ x a. byte_run w x (map byte word ++ stack))) (ih behind g)
 
 -- turns of which one fails, or of which none is left
 pub data FailedTurns {Y : Type 0} (step : List ℕ → Read (List Y × Bool)) (f : Fault) : List ℕ → Type 0 where
   fails : (bytes : List ℕ) → step bytes ≡ Err f → FailedTurns step f bytes
-  spent : (bytes : List ℕ) → unexpected bytes ≡ f → FailedTurns step f bytes
+  spent : (bytes : List ℕ) → bytes ≡ [] → unexpected bytes ≡ f → FailedTurns step f bytes
   later : (bytes : List ℕ) (ys : List Y) (rest : List ℕ) → step bytes ≡ Ok ((ys, true), rest) → FailedTurns step f rest → FailedTurns step f bytes
 
 front_err : {Y : Type 0} (ys : List Y) (r : Read (List Y)) (f : Fault) → with_front ys r ≡ Err f → r ≡ Err f
 front_err {Y = Y} ys (Ok x) f h = absurd cc
 front_err {Y = Y} ys (Err e) f h = h
 
-turned : {Y : Type 0} (step : List ℕ → Read (List Y × Bool)) (n : ℕ) (f : Fault) (bytes : List ℕ) (ys : List Y) (again : Bool) (rest : List ℕ) → step bytes ≡ Ok ((ys, again), rest) →
-    cond again (with_front ys (repeated step n rest)) (Ok (ys, rest)) ≡ Err f → (repeated step n rest ≡ Err f → FailedTurns step f rest) → FailedTurns step f bytes
-turned {Y = Y} step n f bytes ys true rest e h ih = later bytes ys rest e (ih (front_err ys (repeated step n rest) f h))
+turned : {Y : Type 0} (step : List ℕ → Read (List Y × Bool)) (n : ℕ) (f : Fault) (bytes : List ℕ) (ys : List Y) (again : Bool) (rest : List ℕ) →
+    step bytes ≡ Ok ((ys, again), rest) →
+    cond again (with_front ys (repeated step n rest)) (Ok (ys, rest)) ≡ Err f → (step bytes ≡ Ok ((ys, true), rest) → repeated step n rest ≡ Err f → FailedTurns step f rest) → FailedTurns step f bytes
+turned {Y = Y} step n f bytes ys true rest e h ih = later bytes ys rest e (ih e (front_err ys (repeated step n rest) f h))
 turned {Y = Y} step n f bytes ys false rest e h ih = absurd cc
 
-pub turns_err : {Y : Type 0} (step : List ℕ → Read (List Y × Bool)) (n : ℕ) (f : Fault) (bytes : List ℕ) → repeated step n bytes ≡ Err f → FailedTurns step f bytes
+no_bytes : (bytes : List ℕ) → length bytes ≤ 0 → bytes ≡ []
+no_bytes [] le = refl
+no_bytes (b ∷ bytes) le = absurd (omega arith)
+
+pub turns_err : {Y : Type 0} (step : List ℕ → Read (List Y × Bool)) →
+    ((bytes : List ℕ) (ys : List Y) (rest : List ℕ) → step bytes ≡ Ok ((ys, true), rest) → length rest < length bytes) →
+    (n : ℕ) (f : Fault) (bytes : List ℕ) → length bytes ≤ n → repeated step n bytes ≡ Err f → FailedTurns step f bytes
 unfolding repeated
-turns_err {Y = Y} step zero f bytes h = spent bytes (err_same {A = List Y × List ℕ} (unexpected bytes) f h)
-turns_err {Y = Y} step (suc n) f bytes h = by (failed (step bytes) (λ x. turn (repeated step n) x) f h) (λ rest. turns_err step n f rest)
+turns_err {Y = Y} step shrinks zero f bytes le h = spent bytes (no_bytes bytes le) (err_same {A = List Y × List ℕ} (unexpected bytes) f h)
+turns_err {Y = Y} step shrinks (suc n) f bytes le h = by (failed (step bytes) (λ x. turn (repeated step n) x) f h) (λ rest less. turns_err step shrinks n f rest less)
   where
-    by : ((step bytes ≡ Err f) ⊎ ((x : (List Y × Bool) × List ℕ) × (step bytes ≡ Ok x) × (turn (repeated step n) x ≡ Err f))) → ((rest : List ℕ) → repeated step n rest ≡ Err f → FailedTurns step f rest) → FailedTurns step f bytes
+    by : ((step bytes ≡ Err f) ⊎ ((x : (List Y × Bool) × List ℕ) × (step bytes ≡ Ok x) × (turn (repeated step n) x ≡ Err f))) →
+        ((rest : List ℕ) → length rest ≤ n → repeated step n rest ≡ Err f → FailedTurns step f rest) → FailedTurns step f bytes
     by (inl e) ih = fails bytes e
-    by (inr (x, e, g)) ih = turned step n f bytes x.0.0 x.0.1 x.1 e g (ih x.1)
-
--- ---- numbers
-
-digits_err_by : (bytes : List ℕ) (n : ℕ) (f : Fault) (t : Bool) → ◌≡◌ {A = Read (List ℕ)} (cond t (Err (unexpected bytes)) (Ok (take n bytes, drop n bytes))) (Err f) → unexpected bytes ≡ f
-digits_err_by bytes n f true h = err_same {A = List ℕ × List ℕ} (unexpected bytes) f h
-digits_err_by bytes n f false h = absurd cc
-
-digits_err : (bytes : List ℕ) (f : Fault) → digits_at bytes ≡ Err f → unexpected bytes ≡ f
-unfolding digits_at
-digits_err bytes f h = digits_err_by bytes (prefix_len is_digit bytes) f (prefix_len is_digit bytes == 0) h
-
-int_by : (b : ℕ) (bytes : List ℕ) (f : Fault) (t : Bool) → ◌≡◌ {A = Read (List ℕ)} (cond t (Ok (b ∷ [], bytes)) (digits_at (b ∷ bytes))) (Err f) → unexpected (b ∷ bytes) ≡ f
-int_by b bytes f true h = absurd cc
-int_by b bytes f false h = digits_err (b ∷ bytes) f h
-
-int_err : (bytes : List ℕ) (f : Fault) → int_at bytes ≡ Err f → unexpected bytes ≡ f
-unfolding int_at
-int_err [] f h = digits_err [] f h
-int_err (b ∷ bytes) f h = int_by b bytes f (b == 48) h
-
-fraction_by : (b : ℕ) (bytes : List ℕ) (f : Fault) (t : Bool) → (b == 46) ≡ t → ◌≡◌ {A = Read (List ℕ)} (cond t (digits_at bytes) (Ok ([], b ∷ bytes))) (Err f) → (rest : List ℕ) × (b ∷ bytes ≡ 46 ∷ rest) × (unexpected rest ≡ f)
-fraction_by b bytes f true e h = (bytes, ap (λ (x : ℕ). x ∷ bytes) (eqb-true b 46 e), digits_err bytes f h)
-fraction_by b bytes f false e h = absurd cc
-
-fraction_err : (bytes : List ℕ) (f : Fault) → fraction_at bytes ≡ Err f → (rest : List ℕ) × (bytes ≡ 46 ∷ rest) × (unexpected rest ≡ f)
-unfolding fraction_at
-fraction_err [] f h = absurd cc
-fraction_err (b ∷ bytes) f h = fraction_by b bytes f (b == 46) refl h
-
-pub record ExponentCut (bytes : List ℕ) (f : Fault) : Type 0 where
-  pub letter : ℕ
-  pub sign : List ℕ
-  pub rest : List ℕ
-  pub is_letter : IsTrue (is_exponent_letter letter)
-  pub is_sign : IsTrue (is_sign sign)
-  pub spelled : bytes ≡ letter ∷ (sign ++ rest)
-  pub fails : unexpected rest ≡ f
-
-exponent_by : (b : ℕ) (bytes : List ℕ) (f : Fault) (t : Bool) → is_exponent_letter b ≡ t →
-    ◌≡◌ {A = Read (Bool × List ℕ)} (cond t (digits_at (sign_of bytes).1 >>= λ x. Ok (((sign_of bytes).0, x.0), x.1)) (Ok ((false, []), b ∷ bytes))) (Err f) → ExponentCut (b ∷ bytes) f
-exponent_by b bytes f true e h = by (failed {B = (Bool × List ℕ) × List ℕ} (digits_at (sign_of bytes).1) (λ x. Ok (((sign_of bytes).0, x.0), x.1)) f h)
-  where
-    by : ((digits_at (sign_of bytes).1 ≡ Err f) ⊎ ((x : List ℕ × List ℕ) × (digits_at (sign_of bytes).1 ≡ Ok x) × (◌≡◌ {A = Read (Bool × List ℕ)} (Ok (((sign_of bytes).0, x.0), x.1)) (Err f)))) → ExponentCut (b ∷ bytes) f
-    by (inl g) = let s = sign_is bytes in record { letter = b; sign = s.sign; rest = (sign_of bytes).1; is_letter = e; is_sign = s.is; spelled = ap (λ (x : List ℕ). b ∷ x) s.spelled; fails = digits_err (sign_of bytes).1 f g }
-    by (inr (x, g, never)) = absurd cc
-exponent_by b bytes f false e h = absurd cc
-
-exponent_err : (bytes : List ℕ) (f : Fault) → exponent_at bytes ≡ Err f → ExponentCut bytes f
-unfolding exponent_at
-exponent_err [] f h = absurd cc
-exponent_err (b ∷ bytes) f h = exponent_by b bytes f (is_exponent_letter b) refl h
-
-minus_text : Bool → List ℕ
-minus_text minus = cond minus (45 ∷ []) []
-
-IsZero : List ℕ → Type 0
-IsZero text = text ≡ 48 ∷ []
-
-zero_cut : (bytes : List ℕ) (f : Fault) → unexpected bytes ≡ f → Cut IsZero bytes f
-unfolding IsZero
-zero_cut bytes f e = here (λ text. text ≡ 48 ∷ []) bytes (48 ∷ []) f e refl
-
--- a literal whose digits fail
-int_cut : (bytes : List ℕ) (f : Fault) → int_at (minus_of bytes).1 ≡ Err f → Cut IsNumeral bytes f
-unfolding IsZero
-int_cut bytes f h =
-    let m = minus_of bytes in
-    within IsZero IsNumeral (cond m.0 (45 ∷ []) []) [] bytes m.1 f (minus_is bytes)
-    (λ text is. (record { minus = m.0; whole = 48 ∷ []; fraction = []; letter = 101; sign = []; exponent = [] }, record { whole = refl; fraction = refl; letter = refl; sign = refl; exponent = refl }, rw is (by (cond m.0 (45 ∷ []) []))))
-    (zero_cut m.1 f (int_err m.1 f h))
-  where
-    by : (a : List ℕ) → a ++ (48 ∷ []) ≡ a ++ 48 ∷ [] ++ [] ++ []
-    by a = simp (append_assoc, append-nil)
-
-fraction_cut : (bytes whole rest : List ℕ) (f : Fault) → int_at (minus_of bytes).1 ≡ Ok (whole, rest) → fraction_at rest ≡ Err f → Cut IsNumeral bytes f
-unfolding IsZero
-fraction_cut bytes whole rest f i h =
-    let m = minus_of bytes in
-    let int = int_ok m.1 whole rest i in
-    let (more, spelled, why) = fraction_err rest f h in
-    within IsZero IsNumeral (cond m.0 (45 ∷ []) [] ++ (whole ++ 46 ∷ [])) [] bytes more f
-    (minus_is bytes ∙ ap (λ (x : List ℕ). cond m.0 (45 ∷ []) [] ++ x) (int.spelled ∙ ap (λ (x : List ℕ). whole ++ x) spelled) ∙ regroup3 (cond m.0 (45 ∷ []) []) whole 46 more)
-    (λ text is. (record { minus = m.0; whole = whole; fraction = 48 ∷ []; letter = 101; sign = []; exponent = [] }, record { whole = int.is; fraction = refl; letter = refl; sign = refl; exponent = refl }, rw is (by (cond m.0 (45 ∷ []) []) whole)))
-    (zero_cut more f why)
-  where
-    regroup3 : (a b : List ℕ) (c : ℕ) (d : List ℕ) → a ++ (b ++ c ∷ d) ≡ (a ++ (b ++ c ∷ [])) ++ d
-    regroup3 a b c d = simp append_assoc
-
-    by : (a b : List ℕ) → (a ++ (b ++ 46 ∷ [])) ++ (48 ∷ []) ≡ a ++ b ++ (46 ∷ 48 ∷ []) ++ []
-    by a b = simp (append_assoc, append-nil)
-
-exponent_cut : (bytes whole rest fraction behind : List ℕ) (f : Fault) → int_at (minus_of bytes).1 ≡ Ok (whole, rest) → fraction_at rest ≡ Ok (fraction, behind) → exponent_at behind ≡ Err f → Cut IsNumeral bytes f
-unfolding IsZero
-exponent_cut bytes whole rest fraction behind f i j h =
-    let m = minus_of bytes in
-    let int = int_ok m.1 whole rest i in
-    let frac = fraction_ok rest fraction behind j in
-    let c = exponent_err behind f h in
-    let a = cond m.0 (45 ∷ []) [] in
-    within IsZero IsNumeral (a ++ (whole ++ (fraction_text fraction ++ c.letter ∷ c.sign))) [] bytes c.rest f
-    (minus_is bytes ∙ ap (λ (x : List ℕ). cond m.0 (45 ∷ []) [] ++ x) (int.spelled ∙ ap (λ (x : List ℕ). whole ++ x) (frac.spelled ∙ ap (λ (x : List ℕ). fraction_text fraction ++ x) c.spelled)) ∙ regroup4 (cond m.0 (45 ∷ []) []) whole (fraction_text fraction) c.letter c.sign c.rest)
-    (λ text is. (
-      record { minus = m.0; whole = whole; fraction = fraction; letter = c.letter; sign = c.sign; exponent = 48 ∷ [] },
-      record { whole = int.is; fraction = frac.digits_all; letter = c.is_letter; sign = c.is_sign; exponent = refl },
-      rw is (by (cond m.0 (45 ∷ []) []) whole (fraction_text fraction) c.letter c.sign),
-    ))
-    (zero_cut c.rest f c.fails)
-  where
-    regroup4 : (a b c : List ℕ) (d : ℕ) (e g : List ℕ) → a ++ (b ++ (c ++ d ∷ (e ++ g))) ≡ (a ++ (b ++ (c ++ d ∷ e))) ++ g
-    regroup4 a b c d e g = simp append_assoc
-
-    by : (a b c : List ℕ) (d : ℕ) (e : List ℕ) → (a ++ (b ++ (c ++ d ∷ e))) ++ (48 ∷ []) ≡ a ++ b ++ c ++ (d ∷ e ++ 48 ∷ [])
-    by a b c d e = simp append_assoc
-
--- a whole literal that is out of range
-range_cut : (bytes whole rest fraction behind : List ℕ) (down : Bool) (exponent last : List ℕ) (f : Fault) → int_at (minus_of bytes).1 ≡ Ok (whole, rest) → fraction_at rest ≡ Ok (fraction, behind) → exponent_at behind ≡ Ok ((down, exponent), last) →
-    worth (minus_of bytes).0 whole fraction down exponent ≡ None → fault.Number (length bytes) ≡ f → Cut IsNumeral bytes f
-range_cut bytes whole rest fraction behind down exponent last f i j k w e =
-    let m = minus_of bytes in
-    let int = int_ok m.1 whole rest i in
-    let frac = fraction_ok rest fraction behind j in
-    let exp = exponent_ok behind down exponent last k in
-    let l : Literal = record { minus = m.0; whole = whole; fraction = fraction; letter = exp.letter; sign = exp.sign; exponent = exponent } in
-    let ok : IsLiteral l = record { whole = int.is; fraction = frac.digits_all; letter = exp.is_letter; sign = exp.is_sign; exponent = exp.digits_all } in
-    let is : IsNumber (literal_text l) None = (l, ok, refl, sym w ∙ ap (λ (d : Bool). worth m.0 whole fraction d exponent) exp.is_down) in
-    let spelled : bytes ≡ literal_text l ++ last =
-    minus_is bytes
-    ∙ ap (λ (x : List ℕ). cond m.0 (45 ∷ []) [] ++ x) (int.spelled ∙ ap (λ (x : List ℕ). whole ++ x) (frac.spelled ∙ ap (λ (x : List ℕ). fraction_text fraction ++ x) exp.spelled))
-    ∙ regroup5 (cond m.0 (45 ∷ []) []) whole (fraction_text fraction) (exponent_text exp.letter exp.sign exponent) last in
-    let numeral : IsNumeral (literal_text l) = (l, ok, refl) in
-    let cause : NumberHere bytes = (literal_text l, last, is, spelled) in
-    record {
-      front = [];
-      rest = bytes;
-      others = literal_text l;
-      spelled = refl;
-      left = ap (λ (g : Fault). left_of g) (sym e);
-      is = numeral;
-      cause = subst (λ (g : Fault). Cause g bytes) e cause;
-    }
-  where
-    regroup5 : (a b c d e : List ℕ) → a ++ (b ++ (c ++ (d ++ e))) ≡ a ++ b ++ c ++ d ++ e
-    regroup5 a b c d e = simp append_assoc
-
-pub number_err : (bytes : List ℕ) (f : Fault) → number_at bytes ≡ Err f → Cut IsNumeral bytes f
-unfolding number_at
-number_err bytes f h =
-    let m = minus_of bytes in
-    either_failed {B = ℤ × List ℕ} (int_at m.1) (λ whole. fraction_at whole.1 >>= λ fraction. exponent_at fraction.1 >>= λ exponent. or_fault (fault.Number (length bytes)) (worth m.0 whole.0 fraction.0 exponent.0.0 exponent.0.1) >>= λ n. Ok (n, exponent.1)) f (Cut IsNumeral bytes f)
-    (λ e. int_cut bytes f e)
-    (λ w i g. either_failed {B = ℤ × List ℕ} (fraction_at w.1) (λ fraction. exponent_at fraction.1 >>= λ exponent. or_fault (fault.Number (length bytes)) (worth m.0 w.0 fraction.0 exponent.0.0 exponent.0.1) >>= λ n. Ok (n, exponent.1)) f (Cut IsNumeral bytes f)
-    (λ e. fraction_cut bytes w.0 w.1 f i e)
-    (λ r j k. either_failed {B = ℤ × List ℕ} (exponent_at r.1) (λ exponent. or_fault (fault.Number (length bytes)) (worth m.0 w.0 r.0 exponent.0.0 exponent.0.1) >>= λ n. Ok (n, exponent.1)) f (Cut IsNumeral bytes f)
-    (λ e. exponent_cut bytes w.0 w.1 r.0 r.1 f i j e)
-    (λ x l o. either_failed {B = ℤ × List ℕ} (or_fault (fault.Number (length bytes)) (worth m.0 w.0 r.0 x.0.0 x.0.1)) (λ n. Ok (n, x.1)) f (Cut IsNumeral bytes f)
-    (λ e. let p = or_fault_err (fault.Number (length bytes)) (worth m.0 w.0 r.0 x.0.0 x.0.1) f e in range_cut bytes w.0 w.1 r.0 r.1 x.0.0 x.0.1 x.1 f i j l p.1 p.0)
-    (λ n e never. absurd (ok_no_err (n, x.1) f never)) o) k) g) h
+    by (inr (x, e, g)) ih = turned step n f bytes x.0.0 x.0.1 x.1 e g (λ again. let lt = shrinks bytes x.0.0 x.1 again in ih x.1 (omega arith))

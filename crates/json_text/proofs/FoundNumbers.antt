@@ -20,7 +20,8 @@ pub record Digits (bytes digits rest : List ℕ) : Type 0 where
   pub digits_all : IsTrue (list_all is_digit digits)
   pub spelled : bytes ≡ digits ++ rest
 
-digits_by : (bytes digits rest : List ℕ) (n : ℕ) → n ≡ prefix_len is_digit bytes → ◌≡◌ {A = Read (List ℕ)} (cond (n == 0) (Err (unexpected bytes)) (Ok (take n bytes, drop n bytes))) (Ok (digits, rest)) → Digits bytes digits rest
+digits_by : (bytes digits rest : List ℕ) (n : ℕ) → n ≡ prefix_len is_digit bytes →
+    ◌≡◌ {A = Read (List ℕ)} (cond (n == 0) (Err (unexpected bytes)) (Ok (take n bytes, drop n bytes))) (Ok (digits, rest)) → Digits bytes digits rest
 digits_by bytes digits rest zero e h = absurd cc
 digits_by [] digits rest (suc n) e h = absurd (omega arith)
 digits_by (b ∷ bytes) digits rest (suc n) e h =
@@ -58,7 +59,8 @@ pub record Int (bytes whole rest : List ℕ) : Type 0 where
 zero_digit : (b : ℕ) → (b == 48) ≡ true → is_digit b ≡ true
 zero_digit b e = rw (eqb-true b 48 e) refl
 
-int_by : (b : ℕ) (bytes whole rest : List ℕ) (t : Bool) → (b == 48) ≡ t → cond t (Ok (b ∷ [], bytes)) (digits_at (b ∷ bytes)) ≡ Ok (whole, rest) → Int (b ∷ bytes) whole rest
+int_by : (b : ℕ) (bytes whole rest : List ℕ) (t : Bool) → (b == 48) ≡ t → cond t (Ok (b ∷ [], bytes)) (digits_at (b ∷ bytes)) ≡ Ok (whole, rest) →
+    Int (b ∷ bytes) whole rest
 int_by b bytes whole rest true e h =
     let (w, r) = ok_pair (b ∷ []) whole bytes rest h in
     record { is = subst (λ (x : List ℕ). IsTrue (is_int x)) w (zero_digit b e); spelled = ap (λ (x : List ℕ). b ∷ x) r ∙ ap (λ (x : List ℕ). x ++ rest) w }
@@ -84,7 +86,8 @@ pub record Fraction (bytes fraction rest : List ℕ) : Type 0 where
   pub digits_all : IsTrue (list_all is_digit fraction)
   pub spelled : bytes ≡ fraction_text fraction ++ rest
 
-fraction_by : (b : ℕ) (bytes fraction rest : List ℕ) (t : Bool) → (b == 46) ≡ t → cond t (digits_at bytes) (Ok ([], b ∷ bytes)) ≡ Ok (fraction, rest) → Fraction (b ∷ bytes) fraction rest
+fraction_by : (b : ℕ) (bytes fraction rest : List ℕ) (t : Bool) → (b == 46) ≡ t →
+    cond t (digits_at bytes) (Ok ([], b ∷ bytes)) ≡ Ok (fraction, rest) → Fraction (b ∷ bytes) fraction rest
 fraction_by b bytes fraction rest true e h =
     let d = digits_ok bytes fraction rest h in
     record {
@@ -135,7 +138,8 @@ pub sign_is : (bytes : List ℕ) → Sign bytes
 sign_is [] = record { sign = []; is = refl; is_down = refl; spelled = refl }
 sign_is (b ∷ bytes) = sign_by b bytes (b == 45) (b == 43) refl refl
 
-no_exponent : (bytes : List ℕ) (down : Bool) (exponent rest : List ℕ) → ◌≡◌ {A = Bool × List ℕ} (false, []) (down, exponent) → bytes ≡ rest → Exponent bytes down exponent rest
+no_exponent : (bytes : List ℕ) (down : Bool) (exponent rest : List ℕ) → ◌≡◌ {A = Bool × List ℕ} (false, []) (down, exponent) → bytes ≡ rest →
+    Exponent bytes down exponent rest
 no_exponent bytes down exponent rest h r =
     let d : false ≡ down = ap (λ (x : Bool × List ℕ). x.0) h in
     let f : [] ≡ exponent = ap (λ (x : Bool × List ℕ). x.1) h in
@@ -174,7 +178,8 @@ exponent_by b bytes down exponent rest false e h =
     let (made, left) = ok_pair {A = Bool × List ℕ} (false, []) (down, exponent) (b ∷ bytes) rest h in
     no_exponent (b ∷ bytes) down exponent rest made left
 
-pub exponent_ok : (bytes : List ℕ) (down : Bool) (exponent rest : List ℕ) → exponent_at bytes ≡ Ok ((down, exponent), rest) → Exponent bytes down exponent rest
+pub exponent_ok : (bytes : List ℕ) (down : Bool) (exponent rest : List ℕ) → exponent_at bytes ≡ Ok ((down, exponent), rest) →
+    Exponent bytes down exponent rest
 unfolding exponent_at
 exponent_ok [] down exponent rest h =
     let (made, left) = ok_pair {A = Bool × List ℕ} (false, []) (down, exponent) [] rest h in
@@ -186,18 +191,18 @@ exponent_ok (b ∷ bytes) down exponent rest h = exponent_by b bytes down expone
 digit_small : (b : ℕ) → is_digit b ≡ true → b < 128
 digit_small b h = grind arith
 
-letter_small : (b : ℕ) → is_exponent_letter b ≡ true → b < 128
+pub letter_small : (b : ℕ) → is_exponent_letter b ≡ true → b < 128
 letter_small b h = grind arith
 
 sign_small : (b : ℕ) → ((b == 43) || (b == 45)) ≡ true → b < 128
 sign_small b h = grind arith
 
-sign_utf8 : (sign : List ℕ) → IsTrue (is_sign sign) → IsUtf8 sign
+pub sign_utf8 : (sign : List ℕ) → IsTrue (is_sign sign) → IsUtf8 sign
 sign_utf8 [] h = IsUtf8-nil
 sign_utf8 (b ∷ []) h = cons_utf8 b [] (sign_small b h) IsUtf8-nil
 sign_utf8 (b ∷ c ∷ bs) h = absurd cc
 
-int_utf8 : (whole : List ℕ) → IsTrue (is_int whole) → IsUtf8 whole
+pub int_utf8 : (whole : List ℕ) → IsTrue (is_int whole) → IsUtf8 whole
 int_utf8 [] h = absurd cc
 int_utf8 (b ∷ []) h = cons_utf8 b [] (digit_small b h) IsUtf8-nil
 int_utf8 (b ∷ c ∷ bs) h = all_utf8 is_digit (b ∷ c ∷ bs) digit_small (by (not (b == 48)) h)
@@ -206,15 +211,16 @@ int_utf8 (b ∷ c ∷ bs) h = all_utf8 is_digit (b ∷ c ∷ bs) digit_small (by
     by true h = h
     by false h = absurd cc
 
-fraction_utf8 : (fraction : List ℕ) → IsTrue (list_all is_digit fraction) → IsUtf8 (fraction_text fraction)
+pub fraction_utf8 : (fraction : List ℕ) → IsTrue (list_all is_digit fraction) → IsUtf8 (fraction_text fraction)
 fraction_utf8 [] h = IsUtf8-nil
 fraction_utf8 (b ∷ bs) h = cons_utf8 46 (b ∷ bs) (omega arith) (all_utf8 is_digit (b ∷ bs) digit_small h)
 
-exponent_utf8 : (letter : ℕ) (sign exponent : List ℕ) → IsTrue (is_exponent_letter letter) → IsTrue (is_sign sign) → IsTrue (list_all is_digit exponent) → IsUtf8 (exponent_text letter sign exponent)
+exponent_utf8 : (letter : ℕ) (sign exponent : List ℕ) → IsTrue (is_exponent_letter letter) → IsTrue (is_sign sign) →
+    IsTrue (list_all is_digit exponent) → IsUtf8 (exponent_text letter sign exponent)
 exponent_utf8 letter sign [] l s h = IsUtf8-nil
 exponent_utf8 letter sign (b ∷ bs) l s h = cons_utf8 letter (sign ++ b ∷ bs) (letter_small letter l) (IsUtf8-append sign (b ∷ bs) (sign_utf8 sign s) (all_utf8 is_digit (b ∷ bs) digit_small h))
 
-minus_utf8 : (minus : Bool) → IsUtf8 (cond minus (45 ∷ []) [])
+pub minus_utf8 : (minus : Bool) → IsUtf8 (cond minus (45 ∷ []) [])
 minus_utf8 true = cons_utf8 45 [] (omega arith) IsUtf8-nil
 minus_utf8 false = IsUtf8-nil
 

@@ -35,7 +35,8 @@ turned {Y = Y} step n bytes ys false rest zs end e h ih =
     let (made, left) = ok_pair ys zs rest end h in
     subst (λ (us : List Y). Turns step bytes us end) made (subst (λ (r : List ℕ). Turns step bytes ys r) left (last bytes ys rest e))
 
-pub turns_ok : {Y : Type 0} (step : List ℕ → Read (List Y × Bool)) (n : ℕ) (bytes : List ℕ) (zs : List Y) (end : List ℕ) → repeated step n bytes ≡ Ok (zs, end) → Turns step bytes zs end
+pub turns_ok : {Y : Type 0} (step : List ℕ → Read (List Y × Bool)) (n : ℕ) (bytes : List ℕ) (zs : List Y) (end : List ℕ) →
+    repeated step n bytes ≡ Ok (zs, end) → Turns step bytes zs end
 unfolding repeated
 turns_ok {Y = Y} step zero bytes zs end h = absurd cc
 turns_ok {Y = Y} step (suc n) bytes zs end h =
@@ -50,7 +51,8 @@ pub record Hex (bytes : List ℕ) (value : ℕ) (rest : List ℕ) : Type 0 where
   pub worth : hex_value digit ≡ value
   pub spelled : bytes ≡ digit ∷ rest
 
-hex_by : (b : ℕ) (bytes : List ℕ) (value : ℕ) (rest : List ℕ) (t : Bool) → is_hex b ≡ t → cond t (Some (hex_value b)) None ≡ Some value → bytes ≡ rest → Hex (b ∷ bytes) value rest
+hex_by : (b : ℕ) (bytes : List ℕ) (value : ℕ) (rest : List ℕ) (t : Bool) → is_hex b ≡ t → cond t (Some (hex_value b)) None ≡ Some value →
+    bytes ≡ rest → Hex (b ∷ bytes) value rest
 hex_by b bytes value rest true e h r = record { digit = b; is = e; worth = cc; spelled = ap (λ (x : List ℕ). b ∷ x) r }
 hex_by b bytes value rest false e h r = absurd cc
 
@@ -108,7 +110,8 @@ pub record Chars (bytes text rest : List ℕ) : Type 0 where
   pub valid : IsUtf8 (flat_map char_text chars)
   pub spelled : bytes ≡ flat_map char_text chars ++ rest
 
-pub unit_means : (a b c d : ℕ) (others : List Char) → is_high (unit_value a b c d) ≡ false → is_low (unit_value a b c d) ≡ false → text_of (unit a b c d ∷ others) ≡ after (encode_utf8 (unit_value a b c d)) (text_of others)
+pub unit_means : (a b c d : ℕ) (others : List Char) → is_high (unit_value a b c d) ≡ false → is_low (unit_value a b c d) ≡ false →
+    text_of (unit a b c d ∷ others) ≡ after (encode_utf8 (unit_value a b c d)) (text_of others)
 unit_means a b c d [] h l = rw (h, l) (ap (λ (x : List ℕ). Some x) (sym (append-nil (encode_utf8 (unit_value a b c d)))))
 unit_means a b c d (plain x ∷ others) h l = rw (h, l) refl
 unit_means a b c d (short x ∷ others) h l = rw (h, l) refl
@@ -118,7 +121,7 @@ pub pair_means : (a b c d e f g i : ℕ) (others : List Char) → is_high (unit_
     text_of (unit a b c d ∷ unit e f g i ∷ others) ≡ after (encode_utf8 (pair_value (unit_value a b c d) (unit_value e f g i))) (text_of others)
 pair_means a b c d e f g i others h l = rw (h, l) refl
 
-hex_small : (b : ℕ) → is_hex b ≡ true → b < 128
+pub hex_small : (b : ℕ) → is_hex b ≡ true → b < 128
 hex_small b h = grind arith
 
 pub all_hex : (a b c d : Bool) → (a && b && c && d) ≡ true → (a ≡ true) × (b ≡ true) × (c ≡ true) × (d ≡ true)
@@ -177,7 +180,8 @@ low_ok bytes l rest h =
     }
 
 -- one escaped code unit that is a character
-one_chars : (bytes : List ℕ) (u : ℕ) (rest : List ℕ) → Unit4 bytes u rest → is_high u ≡ false → is_low u ≡ false → Chars (92 ∷ 117 ∷ bytes) (encode_utf8 u) rest
+one_chars : (bytes : List ℕ) (u : ℕ) (rest : List ℕ) → Unit4 bytes u rest → is_high u ≡ false → is_low u ≡ false →
+    Chars (92 ∷ 117 ∷ bytes) (encode_utf8 u) rest
 one_chars bytes u rest k h l = record {
   chars = unit k.a k.b k.c k.d ∷ [];
   are = rw k.are refl;
@@ -187,7 +191,8 @@ one_chars bytes u rest k h l = record {
 }
 
 -- a surrogate pair
-two_chars : (bytes : List ℕ) (u : ℕ) (behind : List ℕ) (l : ℕ) (rest : List ℕ) → Unit4 bytes u behind → is_high u ≡ true → Low behind l rest → Chars (92 ∷ 117 ∷ bytes) (encode_utf8 (pair_value u l)) rest
+two_chars : (bytes : List ℕ) (u : ℕ) (behind : List ℕ) (l : ℕ) (rest : List ℕ) → Unit4 bytes u behind → is_high u ≡ true → Low behind l rest →
+    Chars (92 ∷ 117 ∷ bytes) (encode_utf8 (pair_value u l)) rest
 two_chars bytes u behind l rest k h low =
     let m = low.unit in
     record {
@@ -221,7 +226,8 @@ char_by bytes u behind c rest false false k e f made =
     subst (λ (x : ℕ). Chars (92 ∷ 117 ∷ bytes) (encode_utf8 x) rest) is_c
     (subst (λ (x : List ℕ). Chars (92 ∷ 117 ∷ bytes) (encode_utf8 u) x) left (one_chars bytes u behind k e f))
 
-char_ok : (bytes : List ℕ) (u : ℕ) (behind : List ℕ) (c : ℕ) (rest : List ℕ) → Unit4 bytes u behind → char_at u behind ≡ Some (c, rest) → Chars (92 ∷ 117 ∷ bytes) (encode_utf8 c) rest
+char_ok : (bytes : List ℕ) (u : ℕ) (behind : List ℕ) (c : ℕ) (rest : List ℕ) → Unit4 bytes u behind → char_at u behind ≡ Some (c, rest) →
+    Chars (92 ∷ 117 ∷ bytes) (encode_utf8 c) rest
 unfolding char_at
 char_ok bytes u behind c rest k made = char_by bytes u behind c rest (is_high u) (is_low u) k refl refl made
 
@@ -287,7 +293,8 @@ joined_chars first second third front back f g = record {
       ∙ ap (λ (t : List ℕ). t ++ third) (sym (flat_map-append char_text f.chars g.chars));
 }
 
-run_by : (bytes run rest : List ℕ) (t : Bool) (f : Fault) → (utf8_valid_len (take (prefix_len is_plain bytes) bytes) == length (take (prefix_len is_plain bytes) bytes)) ≡ t →
+run_by : (bytes run rest : List ℕ) (t : Bool) (f : Fault) →
+    (utf8_valid_len (take (prefix_len is_plain bytes) bytes) == length (take (prefix_len is_plain bytes) bytes)) ≡ t →
     ◌≡◌ {A = Read (List ℕ)} (cond t (Ok (take (prefix_len is_plain bytes) bytes, drop (prefix_len is_plain bytes) bytes)) (Err f)) (Ok (run, rest)) → Chars bytes run rest
 run_by bytes run rest false f e h = absurd cc
 run_by bytes run rest true f e h =

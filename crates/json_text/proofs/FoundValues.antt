@@ -35,7 +35,8 @@ separator_by closing b bytes again rest false true e f h =
     ap (λ (x : ℕ). x ∷ bytes) (eqb-true b closing f) ∙ ap (λ (x : List ℕ). closing ∷ x) left ∙ ap (λ (x : Bool). cond x 44 closing ∷ rest) made
 separator_by closing b bytes again rest false false e f h = absurd cc
 
-pub separator_ok : (closing : ℕ) (bytes : List ℕ) (again : Bool) (rest : List ℕ) → separator_at closing bytes ≡ Ok (again, rest) → bytes ≡ cond again 44 closing ∷ rest
+pub separator_ok : (closing : ℕ) (bytes : List ℕ) (again : Bool) (rest : List ℕ) → separator_at closing bytes ≡ Ok (again, rest) →
+    bytes ≡ cond again 44 closing ∷ rest
 unfolding separator_at
 separator_ok closing [] again rest h = absurd cc
 separator_ok closing (b ∷ bytes) again rest h = separator_by closing b bytes again rest (b == 44) (b == closing) refl refl h
@@ -86,14 +87,16 @@ pub record Inner {Y : Type 0} (IsPart : List ℕ → Y → Type 0) (closing : �
   pub valid : IsUtf8 inner
   pub spelled : bytes ≡ inner ++ closing ∷ rest
 
-some_inner : {Y : Type 0} (IsPart : List ℕ → Y → Type 0) (closing : ℕ) (bytes : List ℕ) (ys : List Y) (rest : List ℕ) → Parts IsPart closing bytes ys rest → Inner IsPart closing bytes ys rest
+some_inner : {Y : Type 0} (IsPart : List ℕ → Y → Type 0) (closing : ℕ) (bytes : List ℕ) (ys : List Y) (rest : List ℕ) →
+    Parts IsPart closing bytes ys rest → Inner IsPart closing bytes ys rest
 some_inner {Y = Y} IsPart closing bytes ys rest p =
     let is : Listed IsPart (joined (p.part ∷ p.parts)) (p.first ∷ p.others) = (p.part ∷ p.parts, p.each, refl) in
     record { inner = joined (p.part ∷ p.parts); is = subst (λ (x : List Y). Listed IsPart (joined (p.part ∷ p.parts)) x) (sym p.are) is; valid = p.valid; spelled = p.spelled }
 
 inner_by : {Y : Type 0} (IsPart : List ℕ → Y → Type 0) (closing : ℕ) (step : List ℕ → Read (List Y × Bool)) →
     ((bytes : List ℕ) (ys : List Y) (again : Bool) (rest : List ℕ) → step bytes ≡ Ok ((ys, again), rest) → Part IsPart closing bytes ys again rest) →
-    (bytes : List ℕ) (ys : List Y) (rest : List ℕ) (o : Option (List ℕ)) → strip closing (behind_white bytes) ≡ o → unless_closed (repeated step (length bytes) bytes) o ≡ Ok (ys, rest) → Inner IsPart closing bytes ys rest
+    (bytes : List ℕ) (ys : List Y) (rest : List ℕ) (o : Option (List ℕ)) → strip closing (behind_white bytes) ≡ o →
+    unless_closed (repeated step (length bytes) bytes) o ≡ Ok (ys, rest) → Inner IsPart closing bytes ys rest
 inner_by {Y = Y} IsPart closing step ok bytes ys rest None e h = some_inner IsPart closing bytes ys rest (parts_ok IsPart closing step ok bytes ys rest (turns_ok step (length bytes) bytes ys rest h))
 inner_by {Y = Y} IsPart closing step ok bytes ys rest (Some behind) e h =
     let (made, left) = ok_pair {A = List Y} [] ys behind rest h in
@@ -108,7 +111,8 @@ inner_by {Y = Y} IsPart closing step ok bytes ys rest (Some behind) e h =
 -- ---- values
 
 -- white space, a text and white space
-pub padded : (IsText : List ℕ → Type 0) (bytes behind : List ℕ) → Front IsText (behind_white bytes) behind → Front (Padded IsText) bytes (behind_white behind)
+pub padded : (IsText : List ℕ → Type 0) (bytes behind : List ℕ) → Front IsText (behind_white bytes) behind →
+    Front (Padded IsText) bytes (behind_white behind)
 padded IsText bytes behind f =
     let v = whites bytes in
     let w = whites behind in
@@ -133,7 +137,8 @@ abbrev pub IsItem : (List ℕ → Node → Type 0) → List ℕ → Node → Typ
 IsItem IsText part item = Padded (λ text. IsText text item) part
 
 pub item_ok : (value : List ℕ → Read Node) (IsText : List ℕ → Node → Type 0) → Reads value IsText →
-    (bytes : List ℕ) (ys : List Node) (again : Bool) (rest : List ℕ) → item_at value bytes ≡ Ok ((ys, again), rest) → Part (IsItem IsText) 93 bytes ys again rest
+    (bytes : List ℕ) (ys : List Node) (again : Bool) (rest : List ℕ) → item_at value bytes ≡ Ok ((ys, again), rest) →
+    Part (IsItem IsText) 93 bytes ys again rest
 unfolding item_at Reads
 item_ok value IsText reads bytes ys again rest h =
     let p = bound {B = (List Node × Bool) × List ℕ} (value (behind_white bytes)) (λ item. separator_at 93 (behind_white item.1) >>= λ more. Ok ((item.0 ∷ [], more.0), more.1)) ((ys, again), rest) h in
@@ -154,7 +159,8 @@ item_ok value IsText reads bytes ys again rest h =
     }
 
 -- a name, white space and a colon
-pub name_ok : (bytes name rest : List ℕ) → name_at (behind_white bytes) ≡ Ok (name, rest) → Front (λ part. Padded (λ text. IsString text (Some name)) part) bytes (58 ∷ rest)
+pub name_ok : (bytes name rest : List ℕ) → name_at (behind_white bytes) ≡ Ok (name, rest) →
+    Front (λ part. Padded (λ text. IsString text (Some name)) part) bytes (58 ∷ rest)
 unfolding name_at
 name_ok bytes name rest h =
     let p = bound (byte_at 34 (behind_white bytes)) (λ text. text_at text >>= λ name. byte_at 58 (behind_white name.1) >>= λ rest. Ok (name.0, rest)) (name, rest) h in
@@ -173,7 +179,8 @@ name_ok bytes name rest h =
     }
 
 pub member_ok : (value : List ℕ → Read Node) (IsText : List ℕ → Node → Type 0) → Reads value IsText →
-    (bytes : List ℕ) (ys : List Member) (again : Bool) (rest : List ℕ) → member_at value bytes ≡ Ok ((ys, again), rest) → Part (IsMember IsText) 125 bytes ys again rest
+    (bytes : List ℕ) (ys : List Member) (again : Bool) (rest : List ℕ) → member_at value bytes ≡ Ok ((ys, again), rest) →
+    Part (IsMember IsText) 125 bytes ys again rest
 unfolding member_at Reads
 member_ok value IsText reads bytes ys again rest h =
     let p = bound {B = (List Member × Bool) × List ℕ} (name_at (behind_white bytes)) (λ name. value (behind_white name.1) >>= λ inner. separator_at 125 (behind_white inner.1) >>= λ more. Ok (((name.0, inner.0) ∷ [], more.0), more.1)) ((ys, again), rest) h in
@@ -197,11 +204,13 @@ member_ok value IsText reads bytes ys again rest h =
           ∙ sym (append_assoc f.text (58 ∷ g.text) (cond again 44 125 ∷ rest));
     }
 
-items_ok : (value : List ℕ → Read Node) (IsText : List ℕ → Node → Type 0) → Reads value IsText → (bytes : List ℕ) (ys : List Node) (rest : List ℕ) → items_at value bytes ≡ Ok (ys, rest) → Inner (IsItem IsText) 93 bytes ys rest
+items_ok : (value : List ℕ → Read Node) (IsText : List ℕ → Node → Type 0) → Reads value IsText → (bytes : List ℕ) (ys : List Node) (rest : List ℕ) →
+    items_at value bytes ≡ Ok (ys, rest) → Inner (IsItem IsText) 93 bytes ys rest
 unfolding items_at
 items_ok value IsText reads bytes ys rest h = inner_by (IsItem IsText) 93 (item_at value) (item_ok value IsText reads) bytes ys rest (strip 93 (behind_white bytes)) refl h
 
-members_ok : (value : List ℕ → Read Node) (IsText : List ℕ → Node → Type 0) → Reads value IsText → (bytes : List ℕ) (ys : List Member) (rest : List ℕ) → members_at value bytes ≡ Ok (ys, rest) → Inner (IsMember IsText) 125 bytes ys rest
+members_ok : (value : List ℕ → Read Node) (IsText : List ℕ → Node → Type 0) → Reads value IsText →
+    (bytes : List ℕ) (ys : List Member) (rest : List ℕ) → members_at value bytes ≡ Ok (ys, rest) → Inner (IsMember IsText) 125 bytes ys rest
 unfolding members_at
 members_ok value IsText reads bytes ys rest h = inner_by (IsMember IsText) 125 (member_at value) (member_ok value IsText reads) bytes ys rest (strip 125 (behind_white bytes)) refl h
 
@@ -216,13 +225,15 @@ bracket_first b h = grind (arith, nat_tests)
 pub brace_first : (b : ℕ) → lead_by b ≡ lead.Brace → b ≡ 123
 brace_first b h = grind (arith, nat_tests)
 
-pub by_first : (first : ℕ) (l : Lead) → ((b : ℕ) → lead_by b ≡ l → b ≡ first) → (lead.Other ≡ l → ⊥) → (bytes : List ℕ) → lead_of bytes ≡ l → bytes ≡ first ∷ drop 1 bytes
+pub by_first : (first : ℕ) (l : Lead) → ((b : ℕ) → lead_by b ≡ l → b ≡ first) → (lead.Other ≡ l → ⊥) → (bytes : List ℕ) → lead_of bytes ≡ l →
+    bytes ≡ first ∷ drop 1 bytes
 by_first first l is other [] h = absurd (other h)
 by_first first l is other (b ∷ bytes) h = ap (λ (x : ℕ). x ∷ bytes) (is b h)
 
 -- scalars
 
-scalar_ok : (l : Lead) (bytes : List ℕ) (v : Node) (rest : List ℕ) → lead_of bytes ≡ l → scalar_at l bytes ≡ Ok (v, rest) → Front (λ text. IsScalar text v) bytes rest
+scalar_ok : (l : Lead) (bytes : List ℕ) (v : Node) (rest : List ℕ) → lead_of bytes ≡ l → scalar_at l bytes ≡ Ok (v, rest) →
+    Front (λ text. IsScalar text v) bytes rest
 unfolding scalar_at
 scalar_ok lead.Quote bytes v rest e h =
     let p = bound {B = Node × List ℕ} (text_at (drop 1 bytes)) (λ x. Ok (node.Text x.0, x.1)) (v, rest) h in
@@ -262,7 +273,8 @@ front_as P Q bytes rest to f = record { text = f.text; is = to f.text f.is; vali
 
 -- ---- values by how many enclose each other
 
-pub flat_ok : (l : Lead) (bytes : List ℕ) (v : Node) (rest : List ℕ) → lead_of bytes ≡ l → flat_by l bytes ≡ Ok (v, rest) → Front (λ text. IsScalar text v) bytes rest
+pub flat_ok : (l : Lead) (bytes : List ℕ) (v : Node) (rest : List ℕ) → lead_of bytes ≡ l → flat_by l bytes ≡ Ok (v, rest) →
+    Front (λ text. IsScalar text v) bytes rest
 unfolding flat_by
 flat_ok lead.Bracket bytes v rest e h = absurd cc
 flat_ok lead.Brace bytes v rest e h = absurd cc
@@ -280,17 +292,20 @@ IsNested IsText bytes v =
     ⊎ ((items : List Node) × IsArray IsText bytes items × (v ≡ node.Items items))
     ⊎ ((members : List Member) × IsObject IsText bytes members × (v ≡ node.Members (last_values members)))
 
-nested_scalar : (IsText : List ℕ → Node → Type 0) (l : Lead) (bytes : List ℕ) (v : Node) (rest : List ℕ) → lead_of bytes ≡ l → scalar_at l bytes ≡ Ok (v, rest) → Front (λ text. IsNested IsText text v) bytes rest
+nested_scalar : (IsText : List ℕ → Node → Type 0) (l : Lead) (bytes : List ℕ) (v : Node) (rest : List ℕ) → lead_of bytes ≡ l →
+    scalar_at l bytes ≡ Ok (v, rest) → Front (λ text. IsNested IsText text v) bytes rest
 unfolding IsNested
 nested_scalar IsText l bytes v rest e h = front_as (λ text. IsScalar text v) (λ text. IsNested IsText text v) bytes rest (λ text is. inl is) (scalar_ok l bytes v rest e h)
 
-bracketed : (opening closing : ℕ) (inner behind bytes : List ℕ) → bytes ≡ inner ++ closing ∷ behind → opening ∷ bytes ≡ (opening ∷ inner ++ closing ∷ []) ++ behind
+bracketed : (opening closing : ℕ) (inner behind bytes : List ℕ) → bytes ≡ inner ++ closing ∷ behind →
+    opening ∷ bytes ≡ (opening ∷ inner ++ closing ∷ []) ++ behind
 bracketed opening closing inner behind bytes e = ap (λ (z : List ℕ). opening ∷ z) (e ∙ sym (append_assoc inner (closing ∷ []) behind))
 
 bracketed_utf8 : (opening closing : ℕ) (inner : List ℕ) → opening < 128 → closing < 128 → IsUtf8 inner → IsUtf8 (opening ∷ inner ++ closing ∷ [])
 bracketed_utf8 opening closing inner o c h = cons_utf8 opening (inner ++ closing ∷ []) o (IsUtf8-append inner (closing ∷ []) h (cons_utf8 closing [] c IsUtf8-nil))
 
-pub nested_ok : (value : List ℕ → Read Node) (IsText : List ℕ → Node → Type 0) → Reads value IsText → (l : Lead) (bytes : List ℕ) (v : Node) (rest : List ℕ) →
+pub nested_ok : (value : List ℕ → Read Node) (IsText : List ℕ → Node → Type 0) → Reads value IsText →
+    (l : Lead) (bytes : List ℕ) (v : Node) (rest : List ℕ) →
     lead_of bytes ≡ l → value_by value l bytes ≡ Ok (v, rest) → Front (λ text. IsNested IsText text v) bytes rest
 unfolding value_by IsNested
 nested_ok value IsText reads lead.Bracket bytes v rest e h =
@@ -333,7 +348,8 @@ ended : (v w : Node) (bytes : List ℕ) → at_end (v, bytes) ≡ Ok w → (v �
 ended v w [] h = (ok_same v w h, refl)
 ended v w (b ∷ bytes) h = absurd cc
 
-text_by : (depth : ℕ) (bytes : List ℕ) (v : Node) → (value_at depth (behind_white bytes) >>= λ x. at_end (x.0, behind_white x.1)) ≡ Ok v → IsUtf8 bytes × Padded (λ text. IsValue depth text v) bytes
+text_by : (depth : ℕ) (bytes : List ℕ) (v : Node) → (value_at depth (behind_white bytes) >>= λ x. at_end (x.0, behind_white x.1)) ≡ Ok v →
+    IsUtf8 bytes × Padded (λ text. IsValue depth text v) bytes
 unfolding Reads
 text_by depth bytes v h =
     let p = bound (value_at depth (behind_white bytes)) (λ x. at_end (x.0, behind_white x.1)) v h in

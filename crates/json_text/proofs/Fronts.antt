@@ -77,7 +77,8 @@ pub all_utf8 : (p : ℕ → Bool) (bytes : List ℕ) → ((b : ℕ) → p b ≡ 
 all_utf8 p [] below h = IsUtf8-nil
 all_utf8 p (b ∷ bytes) below h = all_by p b bytes (p b) refl below h (all_utf8 p bytes below)
   where
-    all_by : (p : ℕ → Bool) (b : ℕ) (bytes : List ℕ) (t : Bool) → p b ≡ t → ((b : ℕ) → p b ≡ true → b < 128) → (t && list_all p bytes) ≡ true → (list_all p bytes ≡ true → IsUtf8 bytes) → IsUtf8 (b ∷ bytes)
+    all_by : (p : ℕ → Bool) (b : ℕ) (bytes : List ℕ) (t : Bool) → p b ≡ t → ((b : ℕ) → p b ≡ true → b < 128) → (t && list_all p bytes) ≡ true →
+        (list_all p bytes ≡ true → IsUtf8 bytes) → IsUtf8 (b ∷ bytes)
     all_by p b bytes true e below h ih = cons_utf8 b bytes (below b e) (ih h)
     all_by p b bytes false e below h ih = absurd cc
 
@@ -87,7 +88,7 @@ white_small b h = grind arith
 pub white_utf8 : (white : List ℕ) → IsWhite white → IsUtf8 white
 white_utf8 white h = all_utf8 is_white white white_small h
 
-below_128 : (b : ℕ) → nat_lt b 128 ≡ true → b < 128
+pub below_128 : (b : ℕ) → nat_lt b 128 ≡ true → b < 128
 below_128 b h = ltb-true b 128 h
 
 pub word_utf8 : (word : List ℕ) → list_all (λ b. nat_lt b 128) word ≡ true → IsUtf8 word

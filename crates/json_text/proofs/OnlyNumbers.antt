@@ -8,10 +8,12 @@ use Rattle.json_text.specs.Numbers.{is_digit, is_int, is_exponent_letter, is_sig
 use Rattle.json_text.specs.Reading.{Read, unexpected, digits_at, int_at, fraction_at, exponent_at, sign_of, minus_of, number_at}
 use Rattle.json_text.proofs.Spelled.{stops, front_len, ends_value, no_digit, no_point, no_letter}
 
-digits_by : (bytes : List ℕ) (f : Fault) (n m : ℕ) → n ≡ suc m → ◌≡◌ {A = Read (List ℕ)} (cond (n == 0) (Err f) (Ok (take n bytes, drop n bytes))) (Ok (take (suc m) bytes, drop (suc m) bytes))
+digits_by : (bytes : List ℕ) (f : Fault) (n m : ℕ) → n ≡ suc m →
+    ◌≡◌ {A = Read (List ℕ)} (cond (n == 0) (Err f) (Ok (take n bytes, drop n bytes))) (Ok (take (suc m) bytes, drop (suc m) bytes))
 digits_by bytes f n m e = rw (e, ne_eqb (suc m) 0 (λ z. omega arith)) refl
 
-digits_here : (first : ℕ) (others rest : List ℕ) → list_all is_digit (first ∷ others) ≡ true → stops is_digit rest ≡ true → digits_at (first ∷ others ++ rest) ≡ Ok (first ∷ others, rest)
+digits_here : (first : ℕ) (others rest : List ℕ) → list_all is_digit (first ∷ others) ≡ true → stops is_digit rest ≡ true →
+    digits_at (first ∷ others ++ rest) ≡ Ok (first ∷ others, rest)
 unfolding digits_at
 digits_here first others rest h s =
     let bytes = first ∷ others ++ rest in
@@ -19,7 +21,8 @@ digits_here first others rest h s =
     ∙ ap (λ (x : List ℕ). Ok (x, drop (suc (length others)) bytes)) (take_at (first ∷ others) rest (suc (length others)) refl)
     ∙ ap (λ (x : List ℕ). Ok (first ∷ others, x)) (drop_at (first ∷ others) rest (suc (length others)) refl)
 
-int_by : (b : ℕ) (rest : List ℕ) (t : Bool) → (b == 48) ≡ t → is_digit b ≡ true → stops is_digit rest ≡ true → ◌≡◌ {A = Read (List ℕ)} (cond t (Ok (b ∷ [], rest)) (digits_at (b ∷ rest))) (Ok (b ∷ [], rest))
+int_by : (b : ℕ) (rest : List ℕ) (t : Bool) → (b == 48) ≡ t → is_digit b ≡ true → stops is_digit rest ≡ true →
+    ◌≡◌ {A = Read (List ℕ)} (cond t (Ok (b ∷ [], rest)) (digits_at (b ∷ rest))) (Ok (b ∷ [], rest))
 int_by b rest true e h s = refl
 int_by b rest false e h s = digits_here b [] rest (rw h refl) s
 
@@ -40,7 +43,8 @@ fraction_by : (b : ℕ) (bytes : List ℕ) → not (b == 46) ≡ true → fracti
 unfolding fraction_at
 fraction_by b bytes h = rw (not-true (b == 46) h) refl
 
-fraction_here : (fraction rest : List ℕ) → list_all is_digit fraction ≡ true → stops is_digit rest ≡ true → stops (λ b. b == 46) rest ≡ true → fraction_at (fraction_text fraction ++ rest) ≡ Ok (fraction, rest)
+fraction_here : (fraction rest : List ℕ) → list_all is_digit fraction ≡ true → stops is_digit rest ≡ true → stops (λ b. b == 46) rest ≡ true →
+    fraction_at (fraction_text fraction ++ rest) ≡ Ok (fraction, rest)
 unfolding fraction_at
 fraction_here [] [] h s p = refl
 fraction_here [] (b ∷ rest) h s p = fraction_by b rest p
@@ -61,7 +65,8 @@ sign_with s b bytes p true e f h = rw f refl
 sign_with s b bytes true false e f h = rw (f, e) refl
 sign_with s b bytes false false e f h = absurd cc
 
-sign_here : (sign : List ℕ) (b : ℕ) (bytes : List ℕ) → is_sign sign ≡ true → is_digit b ≡ true → sign_of (sign ++ b ∷ bytes) ≡ (is_minus sign, b ∷ bytes)
+sign_here : (sign : List ℕ) (b : ℕ) (bytes : List ℕ) → is_sign sign ≡ true → is_digit b ≡ true →
+    sign_of (sign ++ b ∷ bytes) ≡ (is_minus sign, b ∷ bytes)
 sign_here [] b bytes h d = sign_by b bytes d
 sign_here (s ∷ []) b bytes h d = sign_with s b bytes (s == 43) (s == 45) refl refl h
 sign_here (s ∷ t ∷ more) b bytes h d = absurd cc
@@ -75,11 +80,13 @@ no_exponent : (b : ℕ) (rest : List ℕ) → not (is_exponent_letter b) ≡ tru
 unfolding exponent_at
 no_exponent b rest h = rw (not-true (is_exponent_letter b) h) refl
 
-exponent_as : (letter : ℕ) (bytes : List ℕ) (down : Bool) (more digits rest : List ℕ) → is_exponent_letter letter ≡ true → sign_of bytes ≡ (down, more) → digits_at more ≡ Ok (digits, rest) → exponent_at (letter ∷ bytes) ≡ Ok ((down, digits), rest)
+exponent_as : (letter : ℕ) (bytes : List ℕ) (down : Bool) (more digits rest : List ℕ) → is_exponent_letter letter ≡ true →
+    sign_of bytes ≡ (down, more) → digits_at more ≡ Ok (digits, rest) → exponent_at (letter ∷ bytes) ≡ Ok ((down, digits), rest)
 unfolding exponent_at
 exponent_as letter bytes down more digits rest l s d = rw (l, s, d) refl
 
-exponent_here : (letter : ℕ) (sign exponent rest : List ℕ) → is_exponent_letter letter ≡ true → is_sign sign ≡ true → list_all is_digit exponent ≡ true → ends_value rest ≡ true →
+exponent_here : (letter : ℕ) (sign exponent rest : List ℕ) → is_exponent_letter letter ≡ true → is_sign sign ≡ true →
+    list_all is_digit exponent ≡ true → ends_value rest ≡ true →
     exponent_at (exponent_text letter sign exponent ++ rest) ≡ Ok ((read_down sign exponent, exponent), rest)
 unfolding exponent_at
 exponent_here letter sign [] [] l s h e = refl
@@ -89,21 +96,23 @@ exponent_here letter sign (b ∷ bs) rest l s h e =
     let signed : sign_of (sign ++ b ∷ bs ++ rest) ≡ (is_minus sign, b ∷ bs ++ rest) = ap (λ (x : List ℕ). sign_of x) (append_assoc sign (b ∷ bs) rest) ∙ sign_here sign b (bs ++ rest) s p.0 in
     exponent_as letter (sign ++ b ∷ bs ++ rest) (is_minus sign) (b ∷ bs ++ rest) (b ∷ bs) rest l signed (digits_here b bs rest h (no_digit rest e))
 
-letter_no_digit : (b : ℕ) → is_exponent_letter b ≡ true → not (is_digit b) ≡ true
+pub letter_no_digit : (b : ℕ) → is_exponent_letter b ≡ true → not (is_digit b) ≡ true
 letter_no_digit b h = grind arith
 
-letter_no_point : (b : ℕ) → is_exponent_letter b ≡ true → not (b == 46) ≡ true
+pub letter_no_point : (b : ℕ) → is_exponent_letter b ≡ true → not (b == 46) ≡ true
 letter_no_point b h = grind arith
 
-exponent_no_digit : (letter : ℕ) (sign exponent rest : List ℕ) → is_exponent_letter letter ≡ true → ends_value rest ≡ true → stops is_digit (exponent_text letter sign exponent ++ rest) ≡ true
+pub exponent_no_digit : (letter : ℕ) (sign exponent rest : List ℕ) → is_exponent_letter letter ≡ true → ends_value rest ≡ true →
+    stops is_digit (exponent_text letter sign exponent ++ rest) ≡ true
 exponent_no_digit letter sign [] rest l e = no_digit rest e
 exponent_no_digit letter sign (b ∷ bs) rest l e = letter_no_digit letter l
 
-exponent_no_point : (letter : ℕ) (sign exponent rest : List ℕ) → is_exponent_letter letter ≡ true → ends_value rest ≡ true → stops (λ b. b == 46) (exponent_text letter sign exponent ++ rest) ≡ true
+pub exponent_no_point : (letter : ℕ) (sign exponent rest : List ℕ) → is_exponent_letter letter ≡ true → ends_value rest ≡ true →
+    stops (λ b. b == 46) (exponent_text letter sign exponent ++ rest) ≡ true
 exponent_no_point letter sign [] rest l e = no_point rest e
 exponent_no_point letter sign (b ∷ bs) rest l e = letter_no_point letter l
 
-fraction_no_digit : (fraction rest : List ℕ) → stops is_digit rest ≡ true → stops is_digit (fraction_text fraction ++ rest) ≡ true
+pub fraction_no_digit : (fraction rest : List ℕ) → stops is_digit rest ≡ true → stops is_digit (fraction_text fraction ++ rest) ≡ true
 fraction_no_digit [] rest s = s
 fraction_no_digit (b ∷ bs) rest s = refl
 
@@ -121,12 +130,14 @@ int_no_minus (b ∷ c ∷ bs) rest h =
     no_minus : (b : ℕ) → is_digit b ≡ true → (b == 45) ≡ false
     no_minus b h = grind arith
 
-minus_here : (minus : Bool) (whole rest : List ℕ) → is_int whole ≡ true → minus_of (cond minus (45 ∷ []) [] ++ (whole ++ rest)) ≡ (minus, whole ++ rest)
+minus_here : (minus : Bool) (whole rest : List ℕ) → is_int whole ≡ true →
+    minus_of (cond minus (45 ∷ []) [] ++ (whole ++ rest)) ≡ (minus, whole ++ rest)
 minus_here true whole rest h = refl
 minus_here false whole rest h = int_no_minus whole rest h
 
 -- without digits a sign says nothing
-same_worth : (minus : Bool) (whole fraction sign exponent : List ℕ) → worth minus whole fraction (read_down sign exponent) exponent ≡ worth minus whole fraction (is_minus sign) exponent
+same_worth : (minus : Bool) (whole fraction sign exponent : List ℕ) →
+    worth minus whole fraction (read_down sign exponent) exponent ≡ worth minus whole fraction (is_minus sign) exponent
 same_worth minus whole fraction sign [] = by (is_minus sign)
   where
     by : (down : Bool) → worth minus whole fraction false [] ≡ worth minus whole fraction down []

@@ -27,7 +27,8 @@ unit_here a b c d rest h =
     let k = all_hex (is_hex a) (is_hex b) (is_hex c) (is_hex d) h in
     rw (hex_here a (b ∷ c ∷ d ∷ rest) k.0, hex_here b (c ∷ d ∷ rest) k.1, hex_here c (d ∷ rest) k.2, hex_here d rest k.3) refl
 
-low_here : (a b c d : ℕ) (rest : List ℕ) → is_char (unit a b c d) ≡ true → is_low (unit_value a b c d) ≡ true → low_at (92 ∷ 117 ∷ a ∷ b ∷ c ∷ d ∷ rest) ≡ Some (unit_value a b c d, rest)
+pub low_here : (a b c d : ℕ) (rest : List ℕ) → is_char (unit a b c d) ≡ true → is_low (unit_value a b c d) ≡ true →
+    low_at (92 ∷ 117 ∷ a ∷ b ∷ c ∷ d ∷ rest) ≡ Some (unit_value a b c d, rest)
 unfolding low_at
 low_here a b c d rest h l =
     ap (λ (r : Result (List ℕ) Fault). low_of (r >>= λ x. unit_at x)) (word_here escape_head (a ∷ b ∷ c ∷ d ∷ rest))
@@ -49,7 +50,8 @@ short_escapes : (b c : ℕ) → short_escape b ≡ Some c → Escapes (b ∷ [])
 unfolding Escapes
 short_escapes b c e left rest = short_by left b c rest (no_u b c e) e
 
-one_as : (left : ℕ) (bytes : List ℕ) (u : ℕ) (behind : List ℕ) (x : ℕ × List ℕ) → unit_at bytes ≡ Ok (u, behind) → char_at u behind ≡ Some x → escape_at left (117 ∷ bytes) ≡ Ok x
+one_as : (left : ℕ) (bytes : List ℕ) (u : ℕ) (behind : List ℕ) (x : ℕ × List ℕ) → unit_at bytes ≡ Ok (u, behind) → char_at u behind ≡ Some x →
+    escape_at left (117 ∷ bytes) ≡ Ok x
 unfolding escape_at
 one_as left bytes u behind x e f = rw (e, f) refl
 
@@ -61,12 +63,14 @@ pair_char : (u low : ℕ) (bytes rest : List ℕ) → is_high u ≡ true → low
 unfolding char_at
 pair_char u low bytes rest h l = rw (h, l) refl
 
-one_escapes : (a b c d : ℕ) → is_char (unit a b c d) ≡ true → is_high (unit_value a b c d) ≡ false → is_low (unit_value a b c d) ≡ false → Escapes (117 ∷ a ∷ b ∷ c ∷ d ∷ []) (unit_value a b c d)
+one_escapes : (a b c d : ℕ) → is_char (unit a b c d) ≡ true → is_high (unit_value a b c d) ≡ false → is_low (unit_value a b c d) ≡ false →
+    Escapes (117 ∷ a ∷ b ∷ c ∷ d ∷ []) (unit_value a b c d)
 unfolding Escapes
 one_escapes a b c d k h l left rest =
     one_as left (a ∷ b ∷ c ∷ d ∷ rest) (unit_value a b c d) rest (unit_value a b c d, rest) (unit_here a b c d rest k) (one_char (unit_value a b c d) rest h l)
 
-pair_escapes : (a b c d e f g i : ℕ) → is_char (unit a b c d) ≡ true → is_char (unit e f g i) ≡ true → is_high (unit_value a b c d) ≡ true → is_low (unit_value e f g i) ≡ true →
+pair_escapes : (a b c d e f g i : ℕ) → is_char (unit a b c d) ≡ true → is_char (unit e f g i) ≡ true → is_high (unit_value a b c d) ≡ true →
+    is_low (unit_value e f g i) ≡ true →
     Escapes (117 ∷ a ∷ b ∷ c ∷ d ∷ 92 ∷ 117 ∷ e ∷ f ∷ g ∷ i ∷ []) (pair_value (unit_value a b c d) (unit_value e f g i))
 unfolding Escapes
 pair_escapes a b c d e f g i k m h l left rest =
@@ -80,7 +84,8 @@ run_here : (run rest : List ℕ) → list_all is_plain run ≡ true → stops is
 run_here run rest h s u =
     run_ok (run ++ rest) (prefix_len is_plain (run ++ rest)) run run rest refl (sym (front_taken is_plain run rest h s)) (sym (front_dropped is_plain run rest h s)) refl u
 
-piece_as : (bytes run behind text : List ℕ) (again : Bool) (rest : List ℕ) → run_at bytes ≡ Ok (run, behind) → end_at behind ≡ Ok ((text, again), rest) → piece_at bytes ≡ Ok ((run ++ text, again), rest)
+piece_as : (bytes run behind text : List ℕ) (again : Bool) (rest : List ℕ) → run_at bytes ≡ Ok (run, behind) →
+    end_at behind ≡ Ok ((text, again), rest) → piece_at bytes ≡ Ok ((run ++ text, again), rest)
 unfolding piece_at
 piece_as bytes run behind text again rest r e = rw (r, e) refl
 
@@ -88,7 +93,8 @@ end_here : (rest : List ℕ) → end_at (34 ∷ rest) ≡ Ok (([], false), rest)
 unfolding end_at
 end_here rest = refl
 
-end_escape : (bytes : List ℕ) (c : ℕ) (rest : List ℕ) → escape_at (suc (length bytes)) bytes ≡ Ok (c, rest) → end_at (92 ∷ bytes) ≡ Ok ((encode_utf8 c, true), rest)
+end_escape : (bytes : List ℕ) (c : ℕ) (rest : List ℕ) → escape_at (suc (length bytes)) bytes ≡ Ok (c, rest) →
+    end_at (92 ∷ bytes) ≡ Ok ((encode_utf8 c, true), rest)
 unfolding end_at
 end_escape bytes c rest e = rw e refl
 
@@ -121,7 +127,8 @@ none_taken run text rest p q t u =
     let same : [] ≡ text = cc in
     subst (λ (x : List ℕ). Taken piece_at (run ++ 34 ∷ rest) (run ++ x) rest) same (last (run ++ 34 ∷ rest) (run ++ []) rest e (behind_shorter run rest [] 34))
 
-escape_taken : (chars : List Char) → StringTaken chars → (escape : List ℕ) (c : ℕ) → Escapes escape c → IsUtf8 escape → (run text rest : List ℕ) → list_all is_plain run ≡ true →
+escape_taken : (chars : List Char) → StringTaken chars → (escape : List ℕ) (c : ℕ) → Escapes escape c → IsUtf8 escape → (run text rest : List ℕ) →
+    list_all is_plain run ≡ true →
     list_all is_char chars ≡ true → text_of chars ≡ Some text → IsUtf8 (run ++ (92 ∷ escape ++ written chars rest)) → Taken piece_at (run ++ (92 ∷ escape ++ written chars rest)) (run ++ (encode_utf8 c ++ text)) rest
 unfolding StringTaken Escapes
 escape_taken chars others escape c is valid run text rest p q t u =
@@ -170,7 +177,8 @@ digits_utf8 : (a b c d : ℕ) (others : List ℕ) → is_char (unit a b c d) ≡
 digits_utf8 a b c d others h u = cut_behind (92 ∷ []) (117 ∷ a ∷ b ∷ c ∷ d ∷ others) (unit_utf8 a b c d others h u) (cons_utf8 92 [] (omega arith) IsUtf8-nil)
 
 -- an escaped code unit that is a character
-one_taken : (a b c d : ℕ) (chars : List Char) → is_high (unit_value a b c d) ≡ false → is_low (unit_value a b c d) ≡ false → StringTaken chars → StringTaken (unit a b c d ∷ chars)
+one_taken : (a b c d : ℕ) (chars : List Char) → is_high (unit_value a b c d) ≡ false → is_low (unit_value a b c d) ≡ false → StringTaken chars →
+    StringTaken (unit a b c d ∷ chars)
 unfolding StringTaken
 one_taken a b c d chars h l others run text rest p q t u =
     let k = two_parts (is_char (unit a b c d)) (list_all is_char chars) q in
@@ -180,7 +188,8 @@ one_taken a b c d chars h l others run text rest p q t u =
     subst (λ (y : List ℕ). Taken piece_at (run ++ written (unit a b c d ∷ chars) rest) (run ++ y) rest) x.whole taken
 
 -- a surrogate pair
-pair_taken : (a b c d e f g i : ℕ) (chars : List Char) → is_high (unit_value a b c d) ≡ true → is_low (unit_value e f g i) ≡ true → StringTaken chars → StringTaken (unit a b c d ∷ unit e f g i ∷ chars)
+pair_taken : (a b c d e f g i : ℕ) (chars : List Char) → is_high (unit_value a b c d) ≡ true → is_low (unit_value e f g i) ≡ true →
+    StringTaken chars → StringTaken (unit a b c d ∷ unit e f g i ∷ chars)
 unfolding StringTaken
 pair_taken a b c d e f g i chars h l others run text rest p q t u =
     let k = two_parts (is_char (unit a b c d)) (list_all is_char (unit e f g i ∷ chars)) q in
@@ -193,7 +202,8 @@ pair_taken a b c d e f g i chars h l others run text rest p q t u =
     subst (λ (y : List ℕ). Taken piece_at (run ++ written (unit a b c d ∷ unit e f g i ∷ chars) rest) (run ++ y) rest) x.whole taken
 
 -- a surrogate without its partner is no text
-low_alone : (a b c d : ℕ) (chars : List Char) → is_high (unit_value a b c d) ≡ false → is_low (unit_value a b c d) ≡ true → text_of (unit a b c d ∷ chars) ≡ None
+low_alone : (a b c d : ℕ) (chars : List Char) → is_high (unit_value a b c d) ≡ false → is_low (unit_value a b c d) ≡ true →
+    text_of (unit a b c d ∷ chars) ≡ None
 low_alone a b c d [] h l = rw (h, l) refl
 low_alone a b c d (plain x ∷ chars) h l = rw (h, l) refl
 low_alone a b c d (short x ∷ chars) h l = rw (h, l) refl
@@ -203,12 +213,14 @@ no_string : (chars : List Char) → text_of chars ≡ None → StringTaken chars
 unfolding StringTaken
 no_string chars n run text rest p q t u = let z : None ≡ Some text = sym n ∙ t in absurd cc
 
-unit_taken : (a b c d : ℕ) (chars : List Char) (h l : Bool) → is_high (unit_value a b c d) ≡ h → is_low (unit_value a b c d) ≡ l → (is_high (unit_value a b c d) ≡ true → StringTaken (unit a b c d ∷ chars)) → StringTaken chars → StringTaken (unit a b c d ∷ chars)
+unit_taken : (a b c d : ℕ) (chars : List Char) (h l : Bool) → is_high (unit_value a b c d) ≡ h → is_low (unit_value a b c d) ≡ l →
+    (is_high (unit_value a b c d) ≡ true → StringTaken (unit a b c d ∷ chars)) → StringTaken chars → StringTaken (unit a b c d ∷ chars)
 unit_taken a b c d chars true l e f high others = high e
 unit_taken a b c d chars false true e f high others = no_string (unit a b c d ∷ chars) (low_alone a b c d chars e f)
 unit_taken a b c d chars false false e f high others = one_taken a b c d chars e f others
 
-high_taken : (a b c d e f g i : ℕ) (chars : List Char) (l : Bool) → is_low (unit_value e f g i) ≡ l → is_high (unit_value a b c d) ≡ true → StringTaken chars → StringTaken (unit a b c d ∷ unit e f g i ∷ chars)
+high_taken : (a b c d e f g i : ℕ) (chars : List Char) (l : Bool) → is_low (unit_value e f g i) ≡ l → is_high (unit_value a b c d) ≡ true →
+    StringTaken chars → StringTaken (unit a b c d ∷ unit e f g i ∷ chars)
 high_taken a b c d e f g i chars true l h others = pair_taken a b c d e f g i chars h l others
 high_taken a b c d e f g i chars false l h others = no_string (unit a b c d ∷ unit e f g i ∷ chars) (rw (h, l) refl)
 
@@ -227,7 +239,8 @@ string_taken (unit a b c d ∷ unit e f g i ∷ chars) =
     (λ h. high_taken a b c d e f g i chars (is_low (unit_value e f g i)) refl h (string_taken chars)) (string_taken (unit e f g i ∷ chars))
 
 -- a string is read, its quotation mark before it taken away
-pub string_here : (written text rest : List ℕ) → IsString written (Some text) → IsUtf8 (written ++ rest) → (written ++ rest ≡ 34 ∷ drop 1 (written ++ rest)) × (text_at (drop 1 (written ++ rest)) ≡ Ok (text, rest))
+pub string_here : (written text rest : List ℕ) → IsString written (Some text) → IsUtf8 (written ++ rest) →
+    (written ++ rest ≡ 34 ∷ drop 1 (written ++ rest)) × (text_at (drop 1 (written ++ rest)) ≡ Ok (text, rest))
 unfolding text_at StringTaken
 string_here written text rest (chars, are, spelled, is) u =
     let inner = flat_map char_text chars ++ 34 ∷ rest in

@@ -27,13 +27,13 @@ pub record Opens (text : List ℕ) : Type 0 where
   pub is : text ≡ byte ∷ others
   pub known : lead_by byte ≡ lead.Other → ⊥
 
-white_other : (b : ℕ) → is_white b ≡ true → lead_by b ≡ lead.Other
+pub white_other : (b : ℕ) → is_white b ≡ true → lead_by b ≡ lead.Other
 white_other b h = grind (arith, nat_tests)
 
 digit_lead : (b : ℕ) → is_digit b ≡ true → lead_by b ≡ lead.Number
 digit_lead b h = grind (arith, nat_tests)
 
-opens_stops : (text tail : List ℕ) → Opens text → stops is_white (text ++ tail) ≡ true
+pub opens_stops : (text tail : List ℕ) → Opens text → stops is_white (text ++ tail) ≡ true
 opens_stops text tail o =
     let no : is_white o.byte ≡ false = false_from_ne_true (is_white o.byte) (λ h. o.known (white_other o.byte h)) in
     rw o.is (not_from_false (is_white o.byte) no)
@@ -55,7 +55,7 @@ two_parts true true h = (refl, refl)
 two_parts true false h = absurd cc
 two_parts false y h = absurd cc
 
-int_digit : (whole : List ℕ) → is_int whole ≡ true → Digit whole
+pub int_digit : (whole : List ℕ) → is_int whole ≡ true → Digit whole
 int_digit [] h = absurd cc
 int_digit (b ∷ []) h = record { byte = b; others = []; is = refl; digit = h }
 int_digit (b ∷ c ∷ bs) h =
@@ -69,7 +69,7 @@ pub record NumberOpens (text : List ℕ) : Type 0 where
   pub is : text ≡ byte ∷ others
   pub lead : lead_by byte ≡ lead.Number
 
-number_by : (minus : Bool) (whole tail : List ℕ) → Digit whole → NumberOpens (cond minus (45 ∷ []) [] ++ whole ++ tail)
+pub number_by : (minus : Bool) (whole tail : List ℕ) → Digit whole → NumberOpens (cond minus (45 ∷ []) [] ++ whole ++ tail)
 number_by true whole tail d = record { byte = 45; others = whole ++ tail; is = refl; lead = refl }
 number_by false whole tail d = record { byte = d.byte; others = d.others ++ tail; is = ap (λ (x : List ℕ). x ++ tail) d.is; lead = digit_lead d.byte d.digit }
 
@@ -124,7 +124,8 @@ scalar_opens text v (inr (inr (inr (inr (t, string, is))))) = string_opens text 
 
 -- ---- parts with commas
 
-separator_here : (closing : ℕ) (again : Bool) (rest : List ℕ) → (closing == 44) ≡ false → separator_at closing (cond again 44 closing ∷ rest) ≡ Ok (again, rest)
+separator_here : (closing : ℕ) (again : Bool) (rest : List ℕ) → (closing == 44) ≡ false →
+    separator_at closing (cond again 44 closing ∷ rest) ≡ Ok (again, rest)
 unfolding separator_at
 separator_here closing true rest n = refl
 separator_here closing false rest n = rw (n, eq-eqb closing closing refl) refl
@@ -140,7 +141,8 @@ shorter : (part : List ℕ) (b : ℕ) (rest : List ℕ) → length rest < length
 shorter part b rest = let l = length-append part (b ∷ rest) in omega arith
 
 parts_taken : {Y : Type 0} (step : List ℕ → Read (List Y × Bool)) (IsPart : List ℕ → Y → Type 0) (closing : ℕ) → StepReads step IsPart closing →
-    (part : List ℕ) (parts : List (List ℕ)) (v : Y) (vs : List Y) (rest : List ℕ) → IsPart part v → Each IsPart parts vs → IsUtf8 (joined (part ∷ parts) ++ closing ∷ rest) →
+    (part : List ℕ) (parts : List (List ℕ)) (v : Y) (vs : List Y) (rest : List ℕ) → IsPart part v → Each IsPart parts vs →
+    IsUtf8 (joined (part ∷ parts) ++ closing ∷ rest) →
     Taken step (joined (part ∷ parts) ++ closing ∷ rest) (v ∷ vs) rest
 parts_taken {Y = Y} step IsPart closing s part [] v [] rest is others u = last (part ++ closing ∷ rest) (v ∷ []) rest (s.reads part v false rest is u) (shorter part closing rest)
 parts_taken {Y = Y} step IsPart closing s part [] v (w ∷ ws) rest is others u = absurd others
@@ -154,7 +156,8 @@ parts_taken {Y = Y} step IsPart closing s part (p ∷ ps) v (w ∷ ws) rest is o
     (parts_taken step IsPart closing s p ps w ws rest others.0 others.1 (cut_after part 44 next (omega arith) valid)))
 
 joined_opens : {Y : Type 0} (step : List ℕ → Read (List Y × Bool)) (IsPart : List ℕ → Y → Type 0) (closing : ℕ) → StepReads step IsPart closing →
-    (part : List ℕ) (parts : List (List ℕ)) (v : Y) (tail : List ℕ) → IsPart part v → strip closing (behind_white (joined (part ∷ parts) ++ tail)) ≡ None
+    (part : List ℕ) (parts : List (List ℕ)) (v : Y) (tail : List ℕ) → IsPart part v →
+    strip closing (behind_white (joined (part ∷ parts) ++ tail)) ≡ None
 joined_opens {Y = Y} step IsPart closing s part [] v tail is = s.opens part v tail is
 joined_opens {Y = Y} step IsPart closing s part (p ∷ ps) v tail is = rw (append_assoc part (44 ∷ joined (p ∷ ps)) tail) (s.opens part v (44 ∷ joined (p ∷ ps) ++ tail) is)
 
@@ -182,7 +185,7 @@ pub record ReadsBack (value : List ℕ → Read Node) (IsText : List ℕ → Nod
   pub opens : (text : List ℕ) (v : Node) → IsText text v → Opens text
   pub reads : (text : List ℕ) (v : Node) (rest : List ℕ) → IsText text v → IsUtf8 (text ++ rest) → ends_value rest ≡ true → value (text ++ rest) ≡ Ok (v, rest)
 
-white_ends : (white tail : List ℕ) → IsWhite white → ends_value tail ≡ true → ends_value (white ++ tail) ≡ true
+pub white_ends : (white tail : List ℕ) → IsWhite white → ends_value tail ≡ true → ends_value (white ++ tail) ≡ true
 white_ends [] tail w e = e
 white_ends (b ∷ white) tail w e = let p = two_parts (is_white b) (list_all is_white white) w in rw p.0 refl
 
@@ -211,7 +214,8 @@ padded_here value IsText back part v tail p u e s =
       ends = white_skipped p.behind tail p.white_behind s;
     }
 
-padded_opens : (closing : ℕ) (IsText : List ℕ → Type 0) (part tail : List ℕ) → lead_by closing ≡ lead.Other → ((text : List ℕ) → IsText text → Opens text) → Padded IsText part → strip closing (behind_white (part ++ tail)) ≡ None
+padded_opens : (closing : ℕ) (IsText : List ℕ → Type 0) (part tail : List ℕ) → lead_by closing ≡ lead.Other →
+    ((text : List ℕ) → IsText text → Opens text) → Padded IsText part → strip closing (behind_white (part ++ tail)) ≡ None
 padded_opens closing IsText part tail c opens p =
     let start = p.text ++ (p.behind ++ tail) in
     let o = opens p.text p.is_text in
@@ -222,7 +226,8 @@ padded_opens closing IsText part tail c opens p =
 
 -- ---- items
 
-item_as : (value : List ℕ → Read Node) (bytes start : List ℕ) (v : Node) (end tail : List ℕ) (again : Bool) (rest : List ℕ) → behind_white bytes ≡ start → value start ≡ Ok (v, end) → behind_white end ≡ tail →
+item_as : (value : List ℕ → Read Node) (bytes start : List ℕ) (v : Node) (end tail : List ℕ) (again : Bool) (rest : List ℕ) →
+    behind_white bytes ≡ start → value start ≡ Ok (v, end) → behind_white end ≡ tail →
     separator_at 93 tail ≡ Ok (again, rest) → item_at value bytes ≡ Ok ((v ∷ [], again), rest)
 unfolding item_at
 item_as value bytes start v end tail again rest a b c d = rw (a, b, c, d) refl
@@ -231,11 +236,13 @@ comma_ends : (closing : ℕ) (again : Bool) (rest : List ℕ) → ends_value (cl
 comma_ends closing true rest e = refl
 comma_ends closing false rest e = e
 
-comma_stops : (closing : ℕ) (again : Bool) (rest : List ℕ) → stops is_white (closing ∷ []) ≡ true → stops is_white (cond again 44 closing ∷ rest) ≡ true
+comma_stops : (closing : ℕ) (again : Bool) (rest : List ℕ) → stops is_white (closing ∷ []) ≡ true →
+    stops is_white (cond again 44 closing ∷ rest) ≡ true
 comma_stops closing true rest e = refl
 comma_stops closing false rest e = e
 
-item_here : (value : List ℕ → Read Node) (IsText : List ℕ → Node → Type 0) → ReadsBack value IsText → StepReads (item_at value) (λ part item. Padded (λ text. IsText text item) part) 93
+item_here : (value : List ℕ → Read Node) (IsText : List ℕ → Node → Type 0) → ReadsBack value IsText →
+    StepReads (item_at value) (λ part item. Padded (λ text. IsText text item) part) 93
 item_here value IsText back = record {
   small = omega arith;
   opens = λ part y tail p. padded_opens 93 (λ text. IsText text y) part tail refl (λ text is. back.opens text y is) p;
@@ -247,12 +254,14 @@ item_here value IsText back = record {
 
 -- ---- members
 
-name_as : (bytes text name end tail : List ℕ) → byte_at 34 bytes ≡ Ok text → text_at text ≡ Ok (name, end) → behind_white end ≡ 58 ∷ tail → name_at bytes ≡ Ok (name, tail)
+name_as : (bytes text name end tail : List ℕ) → byte_at 34 bytes ≡ Ok text → text_at text ≡ Ok (name, end) → behind_white end ≡ 58 ∷ tail →
+    name_at bytes ≡ Ok (name, tail)
 unfolding name_at
 name_as bytes text name end tail b t w = rw (b, t, w) refl
 
 -- a name between white space, and a colon
-name_here : (part name tail : List ℕ) → Padded (λ text. IsString text (Some name)) part → IsUtf8 (part ++ 58 ∷ tail) → name_at (behind_white (part ++ 58 ∷ tail)) ≡ Ok (name, tail)
+name_here : (part name tail : List ℕ) → Padded (λ text. IsString text (Some name)) part → IsUtf8 (part ++ 58 ∷ tail) →
+    name_at (behind_white (part ++ 58 ∷ tail)) ≡ Ok (name, tail)
 name_here part name tail p u =
     let end = p.behind ++ 58 ∷ tail in
     let start = p.text ++ end in
@@ -263,12 +272,14 @@ name_here part name tail p u =
     ap (λ (x : List ℕ). name_at x) at
     ∙ name_as start (drop 1 start) name end tail (ap (λ (x : List ℕ). byte_at 34 x) s.0 ∙ byte_here 34 (drop 1 start)) s.1 (white_skipped p.behind (58 ∷ tail) p.white_behind refl)
 
-member_as : (value : List ℕ → Read Node) (bytes name inner start : List ℕ) (v : Node) (end tail : List ℕ) (again : Bool) (rest : List ℕ) → name_at (behind_white bytes) ≡ Ok (name, inner) →
+member_as : (value : List ℕ → Read Node) (bytes name inner start : List ℕ) (v : Node) (end tail : List ℕ) (again : Bool) (rest : List ℕ) →
+    name_at (behind_white bytes) ≡ Ok (name, inner) →
     behind_white inner ≡ start → value start ≡ Ok (v, end) → behind_white end ≡ tail → separator_at 125 tail ≡ Ok (again, rest) → member_at value bytes ≡ Ok (((name, v) ∷ [], again), rest)
 unfolding member_at
 member_as value bytes name inner start v end tail again rest n a b c d = rw (n, a, b, c, d) refl
 
-member_read : (value : List ℕ → Read Node) (IsText : List ℕ → Node → Type 0) → ReadsBack value IsText → (part : List ℕ) (y : Member) (again : Bool) (rest : List ℕ) → IsMember IsText part y →
+member_read : (value : List ℕ → Read Node) (IsText : List ℕ → Node → Type 0) → ReadsBack value IsText →
+    (part : List ℕ) (y : Member) (again : Bool) (rest : List ℕ) → IsMember IsText part y →
     IsUtf8 (part ++ cond again 44 125 ∷ rest) → member_at value (part ++ cond again 44 125 ∷ rest) ≡ Ok ((y ∷ [], again), rest)
 member_read value IsText back part y again rest (name, inner, is_name, is_inner, spelled) u =
     let tail = cond again 44 125 ∷ rest in
@@ -279,20 +290,24 @@ member_read value IsText back part y again rest (name, inner, is_name, is_inner,
     ap (λ (x : List ℕ). member_at value x) whole
     ∙ member_as value (name ++ 58 ∷ (inner ++ tail)) y.0 (inner ++ tail) r.start y.1 r.end tail again rest n r.starts r.reads r.ends (separator_here 125 again rest refl)
 
-member_opens : (IsText : List ℕ → Node → Type 0) (part : List ℕ) (y : Member) (tail : List ℕ) → IsMember IsText part y → strip 125 (behind_white (part ++ tail)) ≡ None
+member_opens : (IsText : List ℕ → Node → Type 0) (part : List ℕ) (y : Member) (tail : List ℕ) → IsMember IsText part y →
+    strip 125 (behind_white (part ++ tail)) ≡ None
 member_opens IsText part y tail (name, inner, is_name, is_inner, spelled) =
     ap (λ (x : List ℕ). strip 125 (behind_white x)) (ap (λ (x : List ℕ). x ++ tail) spelled ∙ append_assoc name (58 ∷ inner) tail)
     ∙ padded_opens 125 (λ text. IsString text (Some y.0)) name (58 ∷ inner ++ tail) refl (λ text is. string_opens text y.0 is) is_name
 
-member_here : (value : List ℕ → Read Node) (IsText : List ℕ → Node → Type 0) → ReadsBack value IsText → StepReads (member_at value) (IsMember IsText) 125
+member_here : (value : List ℕ → Read Node) (IsText : List ℕ → Node → Type 0) → ReadsBack value IsText →
+    StepReads (member_at value) (IsMember IsText) 125
 member_here value IsText back = record { small = omega arith; opens = member_opens IsText; stops = refl; reads = member_read value IsText back }
 
-items_here : (value : List ℕ → Read Node) (IsText : List ℕ → Node → Type 0) → ReadsBack value IsText → (inner : List ℕ) (items : List Node) (rest : List ℕ) →
+items_here : (value : List ℕ → Read Node) (IsText : List ℕ → Node → Type 0) → ReadsBack value IsText →
+    (inner : List ℕ) (items : List Node) (rest : List ℕ) →
     Listed (λ part item. Padded (λ text. IsText text item) part) inner items → IsUtf8 (inner ++ 93 ∷ rest) → items_at value (inner ++ 93 ∷ rest) ≡ Ok (items, rest)
 unfolding items_at
 items_here value IsText back inner items rest is u = listed_here (item_at value) (λ part item. Padded (λ text. IsText text item) part) 93 (item_here value IsText back) inner items rest is u
 
-members_here : (value : List ℕ → Read Node) (IsText : List ℕ → Node → Type 0) → ReadsBack value IsText → (inner : List ℕ) (members : List Member) (rest : List ℕ) →
+members_here : (value : List ℕ → Read Node) (IsText : List ℕ → Node → Type 0) → ReadsBack value IsText →
+    (inner : List ℕ) (members : List Member) (rest : List ℕ) →
     Listed (IsMember IsText) inner members → IsUtf8 (inner ++ 125 ∷ rest) → members_at value (inner ++ 125 ∷ rest) ≡ Ok (members, rest)
 unfolding members_at
 members_here value IsText back inner members rest is u = listed_here (member_at value) (IsMember IsText) 125 (member_here value IsText back) inner members rest is u
@@ -321,20 +336,24 @@ nested_same value lead.False bytes f = refl
 nested_same value lead.Null bytes f = refl
 nested_same value lead.Number bytes f = refl
 
-flat_here : (text : List ℕ) (v : Node) (rest : List ℕ) → IsScalar text v → IsUtf8 (text ++ rest) → ends_value rest ≡ true → flat_by (lead_of (text ++ rest)) (text ++ rest) ≡ Ok (v, rest)
+flat_here : (text : List ℕ) (v : Node) (rest : List ℕ) → IsScalar text v → IsUtf8 (text ++ rest) → ends_value rest ≡ true →
+    flat_by (lead_of (text ++ rest)) (text ++ rest) ≡ Ok (v, rest)
 flat_here text v rest is u e =
     let s = scalar_here text v rest is u e in
     rw s.is (flat_same s.lead (text ++ rest) s.flat ∙ s.read)
 
-items_value : (value : List ℕ → Read Node) (bytes : List ℕ) (items : List Node) (rest : List ℕ) → items_at value bytes ≡ Ok (items, rest) → value_by value lead.Bracket (91 ∷ bytes) ≡ Ok (node.Items items, rest)
+items_value : (value : List ℕ → Read Node) (bytes : List ℕ) (items : List Node) (rest : List ℕ) → items_at value bytes ≡ Ok (items, rest) →
+    value_by value lead.Bracket (91 ∷ bytes) ≡ Ok (node.Items items, rest)
 unfolding value_by
 items_value value bytes items rest h = rw h refl
 
-members_value : (value : List ℕ → Read Node) (bytes : List ℕ) (members : List Member) (rest : List ℕ) → members_at value bytes ≡ Ok (members, rest) → value_by value lead.Brace (123 ∷ bytes) ≡ Ok (node.Members (last_values members), rest)
+members_value : (value : List ℕ → Read Node) (bytes : List ℕ) (members : List Member) (rest : List ℕ) → members_at value bytes ≡ Ok (members, rest) →
+    value_by value lead.Brace (123 ∷ bytes) ≡ Ok (node.Members (last_values members), rest)
 unfolding value_by
 members_value value bytes members rest h = rw h refl
 
-nested_here : (value : List ℕ → Read Node) (IsText : List ℕ → Node → Type 0) → ReadsBack value IsText → (text : List ℕ) (v : Node) (rest : List ℕ) → IsNested IsText text v → IsUtf8 (text ++ rest) → ends_value rest ≡ true →
+nested_here : (value : List ℕ → Read Node) (IsText : List ℕ → Node → Type 0) → ReadsBack value IsText → (text : List ℕ) (v : Node) (rest : List ℕ) →
+    IsNested IsText text v → IsUtf8 (text ++ rest) → ends_value rest ≡ true →
     value_by value (lead_of (text ++ rest)) (text ++ rest) ≡ Ok (v, rest)
 unfolding IsNested
 nested_here value IsText back text v rest (inl is) u e =
@@ -362,10 +381,12 @@ value_here (suc depth) = record { opens = nested_opens (IsValue depth); reads = 
 
 -- ---- whole texts
 
-whole_as : (depth : ℕ) (bytes start : List ℕ) (v : Node) (end : List ℕ) → behind_white bytes ≡ start → value_at depth start ≡ Ok (v, end) → behind_white end ≡ [] → (value_at depth (behind_white bytes) >>= λ x. at_end (x.0, behind_white x.1)) ≡ Ok v
+whole_as : (depth : ℕ) (bytes start : List ℕ) (v : Node) (end : List ℕ) → behind_white bytes ≡ start → value_at depth start ≡ Ok (v, end) →
+    behind_white end ≡ [] → (value_at depth (behind_white bytes) >>= λ x. at_end (x.0, behind_white x.1)) ≡ Ok v
 whole_as depth bytes start v end s r e = rw (s, r, e) refl
 
-only_by : (depth : ℕ) (bytes : List ℕ) (v : Node) → IsUtf8 bytes → Padded (λ text. IsValue depth text v) bytes → (value_at depth (behind_white bytes) >>= λ x. at_end (x.0, behind_white x.1)) ≡ Ok v
+only_by : (depth : ℕ) (bytes : List ℕ) (v : Node) → IsUtf8 bytes → Padded (λ text. IsValue depth text v) bytes →
+    (value_at depth (behind_white bytes) >>= λ x. at_end (x.0, behind_white x.1)) ≡ Ok v
 only_by depth bytes v u p =
     let r = padded_here (value_at depth) (IsValue depth) (value_here depth) bytes v [] p (subst IsUtf8 (sym (append-nil bytes)) u) refl refl in
     whole_as depth bytes r.start v r.end (ap (λ (x : List ℕ). behind_white x) (sym (append-nil bytes)) ∙ r.starts) r.reads r.ends

@@ -16,7 +16,8 @@ abbrev pub stops : (ℕ → Bool) → List ℕ → Bool
 stops p [] = true
 stops p (b ∷ bytes) = not (p b)
 
-goes_by : (p : ℕ → Bool) (b : ℕ) (front rest : List ℕ) (t : Bool) → p b ≡ t → (t && list_all p front) ≡ true → (list_all p front ≡ true → prefix_len p (front ++ rest) ≡ length front) → cond t (1 + prefix_len p (front ++ rest)) 0 ≡ suc (length front)
+goes_by : (p : ℕ → Bool) (b : ℕ) (front rest : List ℕ) (t : Bool) → p b ≡ t → (t && list_all p front) ≡ true →
+    (list_all p front ≡ true → prefix_len p (front ++ rest) ≡ length front) → cond t (1 + prefix_len p (front ++ rest)) 0 ≡ suc (length front)
 goes_by p b front rest true e h ih = let i = ih h in omega arith
 goes_by p b front rest false e h ih = absurd cc
 
@@ -25,10 +26,12 @@ front_len p [] [] h s = refl
 front_len p [] (b ∷ rest) h s = rw (not-true (p b) s) refl
 front_len p (b ∷ front) rest h s = goes_by p b front rest (p b) refl h (λ k. front_len p front rest k s)
 
-pub front_taken : (p : ℕ → Bool) (front rest : List ℕ) → list_all p front ≡ true → stops p rest ≡ true → take (prefix_len p (front ++ rest)) (front ++ rest) ≡ front
+pub front_taken : (p : ℕ → Bool) (front rest : List ℕ) → list_all p front ≡ true → stops p rest ≡ true →
+    take (prefix_len p (front ++ rest)) (front ++ rest) ≡ front
 front_taken p front rest h s = take_at front rest (prefix_len p (front ++ rest)) (sym (front_len p front rest h s))
 
-pub front_dropped : (p : ℕ → Bool) (front rest : List ℕ) → list_all p front ≡ true → stops p rest ≡ true → drop (prefix_len p (front ++ rest)) (front ++ rest) ≡ rest
+pub front_dropped : (p : ℕ → Bool) (front rest : List ℕ) → list_all p front ≡ true → stops p rest ≡ true →
+    drop (prefix_len p (front ++ rest)) (front ++ rest) ≡ rest
 front_dropped p front rest h s = drop_at front rest (prefix_len p (front ++ rest)) (sym (front_len p front rest h s))
 
 pub white_skipped : (white rest : List ℕ) → IsWhite white → stops is_white rest ≡ true → behind_white (white ++ rest) ≡ rest
@@ -71,7 +74,8 @@ pub data Taken {Y : Type 0} (step : List ℕ → Read (List Y × Bool)) : List �
   last : (bytes : List ℕ) (ys : List Y) (rest : List ℕ) → step bytes ≡ Ok ((ys, false), rest) → length rest < length bytes → Taken step bytes ys rest
   more : (bytes : List ℕ) (ys : List Y) (rest : List ℕ) (zs : List Y) (end : List ℕ) → step bytes ≡ Ok ((ys, true), rest) → length rest < length bytes → Taken step rest zs end → Taken step bytes (ys ++ zs) end
 
-one_turn : {Y : Type 0} (step : List ℕ → Read (List Y × Bool)) (n : ℕ) (bytes : List ℕ) (ys : List Y) (rest : List ℕ) → step bytes ≡ Ok ((ys, false), rest) → repeated step (suc n) bytes ≡ Ok (ys, rest)
+one_turn : {Y : Type 0} (step : List ℕ → Read (List Y × Bool)) (n : ℕ) (bytes : List ℕ) (ys : List Y) (rest : List ℕ) →
+    step bytes ≡ Ok ((ys, false), rest) → repeated step (suc n) bytes ≡ Ok (ys, rest)
 unfolding repeated
 one_turn {Y = Y} step n bytes ys rest e = ap (λ (r : Read (List Y × Bool)). r >>= λ x. turn (repeated step n) x) e
 
@@ -80,7 +84,8 @@ turns : {Y : Type 0} (step : List ℕ → Read (List Y × Bool)) (n : ℕ) (byte
 unfolding repeated
 turns {Y = Y} step n bytes ys rest zs end e h = ap (λ (r : Read (List Y × Bool)). r >>= λ x. turn (repeated step n) x) e ∙ ap (λ (r : Read (List Y)). with_front ys r) h
 
-pub taken_ok : {Y : Type 0} (step : List ℕ → Read (List Y × Bool)) (bytes : List ℕ) (ys : List Y) (end : List ℕ) → Taken step bytes ys end → (n : ℕ) → length bytes ≤ n → repeated step n bytes ≡ Ok (ys, end)
+pub taken_ok : {Y : Type 0} (step : List ℕ → Read (List Y × Bool)) (bytes : List ℕ) (ys : List Y) (end : List ℕ) → Taken step bytes ys end → (n : ℕ) →
+    length bytes ≤ n → repeated step n bytes ≡ Ok (ys, end)
 taken_ok {Y = Y} step bytes ys end (last _ _ _ e lt) zero le = absurd (omega arith)
 taken_ok {Y = Y} step bytes ys end (last _ _ _ e lt) (suc n) le = one_turn step n bytes ys end e
 taken_ok {Y = Y} step bytes ys end (more _ _ _ _ _ e lt t) zero le = absurd (omega arith)

@@ -47,7 +47,8 @@ other_digit v z n d w h lt ne e =
     let same : w + d ≡ n * 10 + d = omega (arith, p.0, h.0, ten_more v z) in
     (omega (arith, same), omega (arith, same, p.1, lt), subst EndsInNoZero (sym same) (ends_in n d lt ne))
 
-pub too_long : (over : Bool) (v z n d x : ℕ) → Stands over v z n → d < 10 → d ≢ 0 → ((over ≡ true) ⊎ (scaled v (z + 1) ≡ None)) → Stands true x 0 (n * 10 + d)
+pub too_long : (over : Bool) (v z n d x : ℕ) → Stands over v z n → d < 10 → d ≢ 0 → ((over ≡ true) ⊎ (scaled v (z + 1) ≡ None)) →
+    Stands true x 0 (n * 10 + d)
 too_long true v z n d x h lt ne e = (n * 10 + d, 0, omega arith, omega (arith, h.2, h.3, at_least h.0 h.1), ends_in n d lt ne)
 too_long false v z n d x h lt ne (inl e) = absurd cc
 too_long false v z n d x h lt ne (inr e) = (n * 10 + d, 0, omega arith, omega (arith, h.0, ten_more v z, above (v * 10 ^ (z + 1)) (10 ^ 38) e), ends_in n d lt ne)
@@ -80,14 +81,16 @@ is_below_ten d h = grind arith
 is_not_zero : (d : ℕ) → IsTrue (is_digit d) → d ≢ 48 → d - 48 ≢ 0
 is_not_zero d h ne e = grind arith
 
-pub digit_kept : (over : Bool) (v z n d w x : ℕ) → over ≡ false → IsTrue (is_digit d) → d ≢ 48 → Some w ≡ scaled v (z + 1) → x ≡ d - 48 → Stands over v z n → Stands over (w + x) 0 (n * 10 + (d - 48))
+pub digit_kept : (over : Bool) (v z n d w x : ℕ) → over ≡ false → IsTrue (is_digit d) → d ≢ 48 → Some w ≡ scaled v (z + 1) → x ≡ d - 48 →
+    Stands over v z n → Stands over (w + x) 0 (n * 10 + (d - 48))
 digit_kept true v z n d w x o h ne e x-is s = absurd cc
 digit_kept false v z n d w x o h ne e x-is s = subst (λ (y : ℕ). Stands false (w + y) 0 (n * 10 + (d - 48))) (sym x-is) (other_digit v z n (d - 48) w s (is_below_ten d h) (is_not_zero d h ne) (sym e))
 
 pub digit_over : (over : Bool) (v z n d x : ℕ) → over ≡ true → IsTrue (is_digit d) → d ≢ 48 → Stands over v z n → Stands true x 0 (n * 10 + (d - 48))
 digit_over over v z n d x o h ne s = too_long over v z n (d - 48) x s (is_below_ten d h) (is_not_zero d h ne) (inl o)
 
-pub digit_long : (over : Bool) (v z n d x : ℕ) → None ≡ scaled v (z + 1) → IsTrue (is_digit d) → d ≢ 48 → Stands over v z n → Stands true x 0 (n * 10 + (d - 48))
+pub digit_long : (over : Bool) (v z n d x : ℕ) → None ≡ scaled v (z + 1) → IsTrue (is_digit d) → d ≢ 48 → Stands over v z n →
+    Stands true x 0 (n * 10 + (d - 48))
 digit_long over v z n d x e h ne s = too_long over v z n (d - 48) x s (is_below_ten d h) (is_not_zero d h ne) (inr (sym e))
 
 pub pow_fits : (z : ℕ) → z ≤ 38 → 10 ^ z < 340282366920938463463374607431768211456
@@ -196,13 +199,16 @@ cap_down over v z e c b c-is lt =
 all_digits : (whole fraction : List ℕ) → digits_value (whole ++ fraction) ≡ digits_from (digits_from 0 whole) fraction
 all_digits whole fraction = fold-append (λ k b. k * 10 + (b - 0x30)) 0 whole fraction
 
-pub magnitude_down : (whole fraction exponent : List ℕ) (over : Bool) (v z c : ℕ) → Stands over v z (digits_from (digits_from 0 whole) fraction) → z < 2 ^ 66 → c ≡ min (digits_value exponent) (10 ^ 24) → shifted over v z 18 (length fraction + c) ≡ magnitude whole fraction true exponent
+pub magnitude_down : (whole fraction exponent : List ℕ) (over : Bool) (v z c : ℕ) → Stands over v z (digits_from (digits_from 0 whole) fraction) →
+    z < 2 ^ 66 → c ≡ min (digits_value exponent) (10 ^ 24) → shifted over v z 18 (length fraction + c) ≡ magnitude whole fraction true exponent
 magnitude_down whole fraction exponent over v z c h lt c-is =
     cap_down over v z (digits_value exponent) c (length fraction) c-is lt
     ∙ sym (is_shifted over v z (digits_from (digits_from 0 whole) fraction) 18 (length fraction + digits_value exponent) h)
     ∙ ap (λ (n : ℕ). whole_units (n * 10 ^ 18) (10 ^ (length fraction + digits_value exponent))) (sym (all_digits whole fraction))
 
-pub magnitude_up : (whole fraction exponent : List ℕ) (over : Bool) (v z c : ℕ) → Stands over v z (digits_from (digits_from 0 whole) fraction) → length fraction < 2 ^ 64 → c ≡ min (digits_value exponent) (10 ^ 24) → shifted over v z (18 + c) (length fraction) ≡ magnitude whole fraction false exponent
+pub magnitude_up : (whole fraction exponent : List ℕ) (over : Bool) (v z c : ℕ) → Stands over v z (digits_from (digits_from 0 whole) fraction) →
+    length fraction < 2 ^ 64 → c ≡ min (digits_value exponent) (10 ^ 24) →
+    shifted over v z (18 + c) (length fraction) ≡ magnitude whole fraction false exponent
 magnitude_up whole fraction exponent over v z c h lt c-is =
     cap_up over v z (digits_value exponent) c (length fraction) c-is lt
     ∙ sym (is_shifted over v z (digits_from (digits_from 0 whole) fraction) (18 + digits_value exponent) (length fraction) h)

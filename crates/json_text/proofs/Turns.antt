@@ -10,7 +10,8 @@ regroup {Y = Y} front ys (Ok x) = ap (λ (zs : List Y). Ok (zs, x.1)) (sym (appe
 regroup {Y = Y} front ys (Err f) = refl
 
 -- with turns left another one is made
-unrolled : {Y : Type 0} (step : List ℕ → Read (List Y × Bool)) (n : ℕ) (rest : List ℕ) → repeated step (suc n) rest ≡ (step rest >>= λ x. turn (repeated step n) x)
+unrolled : {Y : Type 0} (step : List ℕ → Read (List Y × Bool)) (n : ℕ) (rest : List ℕ) →
+    repeated step (suc n) rest ≡ (step rest >>= λ x. turn (repeated step n) x)
 unfolding repeated
 unrolled step n rest = refl
 
@@ -67,6 +68,7 @@ starts (Ok x) = refl
 starts (Err f) = refl
 
 -- where a part fails the whole does, if each fault of the part is its own
-pub fails_as : {X Y : Type 0} (e : Stop) (part : Result X Fault) (whole : Result Y Fault) → Fails e part → ((f : Fault) → part ≡ Err f → whole ≡ Err f) → Fails e whole
+pub fails_as : {X Y : Type 0} (e : Stop) (part : Result X Fault) (whole : Result Y Fault) → Fails e part →
+    ((f : Fault) → part ≡ Err f → whole ≡ Err f) → Fails e whole
 fails_as stop.Memory part whole h as_part = tt
 fails_as (stop.Fault f) part whole h as_part = as_part f h

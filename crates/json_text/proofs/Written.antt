@@ -12,11 +12,13 @@ use Rattle.doc_model.specs.declared.node.Node.TheFolds.{fold-roll-Node}
 use Rattle.json_text.specs.Grammar.{joined, Member}
 use Rattle.json_text.specs.Canonical.{escaped, places_text, node_step, node_text, member_text, quoted, comma}
 
-pub quoted_whole : (all opened before yielded chars : List ℕ) → all ≡ opened ++ flat_map escaped yielded → opened ≡ before ++ 34 ∷ [] → yielded ≡ chars → before ++ 34 ∷ (flat_map escaped chars ++ 34 ∷ []) ≡ all ++ 34 ∷ []
+pub quoted_whole : (all opened before yielded chars : List ℕ) → all ≡ opened ++ flat_map escaped yielded → opened ≡ before ++ 34 ∷ [] →
+    yielded ≡ chars → before ++ 34 ∷ (flat_map escaped chars ++ 34 ∷ []) ≡ all ++ 34 ∷ []
 quoted_whole all opened before yielded chars a o y = rw (a, o, y) (simp append_assoc)
 
 -- one part more
-joined_push : (parts : List (List ℕ)) (part : List ℕ) (some : Bool) → some ≡ not (length parts == 0) → joined (parts ++ part ∷ []) ≡ joined parts ++ comma some ++ part
+joined_push : (parts : List (List ℕ)) (part : List ℕ) (some : Bool) → some ≡ not (length parts == 0) →
+    joined (parts ++ part ∷ []) ≡ joined parts ++ comma some ++ part
 joined_push [] part some e = rw e refl
 joined_push (first ∷ []) part some e = rw e (sym (append_assoc first (44 ∷ []) part))
 joined_push (first ∷ next ∷ parts) part some e =
@@ -39,7 +41,8 @@ some_by : (n i : ℕ) (some : Bool) → n ≡ i → some ≡ not (i == 0) → so
 some_by n i some e s = rw e s
 
 -- what is written of one part more
-pub joined_more : {X : Type 0} (f : X → List ℕ) (xs ys : List X) (i : ℕ) (x : X) (some : Bool) (start all commaed now : List ℕ) → ys ≡ xs → i < length ys → x ≡ get_or ys i x → some ≡ not (i == 0) →
+pub joined_more : {X : Type 0} (f : X → List ℕ) (xs ys : List X) (i : ℕ) (x : X) (some : Bool) (start all commaed now : List ℕ) → ys ≡ xs →
+    i < length ys → x ≡ get_or ys i x → some ≡ not (i == 0) →
     all ≡ start ++ joined (map f (take i xs)) → commaed ≡ all ++ comma some → now ≡ commaed ++ f x → now ≡ start ++ joined (map f (take (i + 1) xs))
 joined_more {X = X} f xs ys i x some start all commaed now same lt is more a b c =
     let le : i < length xs = subst (λ (zs : List X). i < length zs) same lt in
@@ -50,7 +53,8 @@ joined_more {X = X} f xs ys i x some start all commaed now same lt is more a b c
     ap (λ (ps : List (List ℕ)). joined ps) (map_more f xs i x le ∙ ap (λ (z : X). front ++ f z ∷ []) (sym at)) ∙ joined_push front (f x) some (some_by (length front) i some len more) in
     rw (whole, c, b, a) (simp append_assoc)
 
-pub all_more : {X : Type 0} (p : X → Bool) (xs ys : List X) (i : ℕ) (x : X) → ys ≡ xs → i < length ys → x ≡ get_or ys i x → list_all p (take i xs) ≡ true → p x ≡ true → list_all p (take (i + 1) xs) ≡ true
+pub all_more : {X : Type 0} (p : X → Bool) (xs ys : List X) (i : ℕ) (x : X) → ys ≡ xs → i < length ys → x ≡ get_or ys i x →
+    list_all p (take i xs) ≡ true → p x ≡ true → list_all p (take (i + 1) xs) ≡ true
 all_more {X = X} p xs ys i x same lt is all one =
     let le : i < length xs = subst (λ (zs : List X). i < length zs) same lt in
     let at : x ≡ get_or xs i x = subst (λ (zs : List X). x ≡ get_or zs i x) same is in
@@ -62,10 +66,12 @@ on_ok {A = A} {E = E} (Ok x) P p = p
 on_ok {A = A} {E = E} (Err e) P p = tt
 
 -- between brackets
-pub bracketed : (all opened before inner : List ℕ) (first last : ℕ) → all ≡ opened ++ inner → opened ≡ before ++ first ∷ [] → before ++ first ∷ (inner ++ last ∷ []) ≡ all ++ last ∷ []
+pub bracketed : (all opened before inner : List ℕ) (first last : ℕ) → all ≡ opened ++ inner → opened ≡ before ++ first ∷ [] →
+    before ++ first ∷ (inner ++ last ∷ []) ≡ all ++ last ∷ []
 bracketed all opened before inner first last a o = rw (a, o) (simp append_assoc)
 
-pub member_whole : (all named colon commaed name value : List ℕ) → named ≡ commaed ++ name → colon ≡ named ++ 58 ∷ [] → all ≡ colon ++ value → all ≡ commaed ++ (name ++ 58 ∷ value)
+pub member_whole : (all named colon commaed name value : List ℕ) → named ≡ commaed ++ name → colon ≡ named ++ 58 ∷ [] → all ≡ colon ++ value →
+    all ≡ commaed ++ (name ++ 58 ∷ value)
 member_whole all named colon commaed name value n c a = rw (a, c, n) (simp append_assoc)
 
 abbrev valued : Member → List ℕ × List ℕ
@@ -111,6 +117,7 @@ next_by : (places rest : ℕ) (p : ℕ) → p ≡ places → rest ≢ 0 → plac
 unfolding places_text
 next_by places rest p e ne = rw (e, ne_eqb rest 0 ne) refl
 
-pub next_place : (places unit rest : ℕ) → unit ≡ 10 ^ places → places ≢ 0 → rest ≢ 0 → places_text places rest ≡ (48 + rest / (unit / 10)) ∷ places_text (places - 1) (rest % (unit / 10))
+pub next_place : (places unit rest : ℕ) → unit ≡ 10 ^ places → places ≢ 0 → rest ≢ 0 →
+    places_text places rest ≡ (48 + rest / (unit / 10)) ∷ places_text (places - 1) (rest % (unit / 10))
 next_place zero unit rest e ne some = absurd (ne refl)
 next_place (suc places) unit rest e ne some = rw (tenth (suc places) unit e ne) (next_by places rest (suc places - 1) (one_back places) some)

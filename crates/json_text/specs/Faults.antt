@@ -1,10 +1,11 @@
 -- What stands before the place of a fault, and at it.
-use Rattle.std.specs.Prelude.{ℕ, zero, suc, ◌≡◌, ◌≤◌, ◌⊎◌, List, [], ◌∷◌, ◌++◌, length, take, drop, None, IsTrue}
+use Rattle.std.specs.Prelude.{ℕ, zero, suc, ◌≡◌, ◌+◌, ◌<◌, ◌≤◌, ◌⊎◌, List, [], ◌∷◌, ◌++◌, length, take, drop, None, IsTrue}
 use Rattle.std.specs.List.{list_all}
+use Rattle.std.specs.Str.{IsUtf8, IsValidUpTo}
 use Rattle.json_text.specs.declared.bad.JsonBad.{JsonBad}
 use Rattle.json_text.specs.declared.bad.JsonBad.TheVariants as bad
 use Rattle.json_text.specs.Numbers.{Literal, IsLiteral, literal_text, IsNumber}
-use Rattle.json_text.specs.Strings.{Char, is_char, string_text}
+use Rattle.json_text.specs.Strings.{Char, unit, is_char, char_text, string_text, unit_value, is_high, is_low}
 use Rattle.json_text.specs.Grammar.{IsWhite, Padded, joined, null_text, true_text, false_text}
 
 -- number (RFC 8259, section 6), whatever it is worth
@@ -39,9 +40,22 @@ IsSpelled (suc depth) bytes =
     ⊎ ((inner : List ℕ) × AreParts (Padded (IsSpelled depth)) inner × (bytes ≡ 0x5B ∷ inner ++ 0x5D ∷ []))
     ⊎ ((inner : List ℕ) × AreParts (IsPair (IsSpelled depth)) inner × (bytes ≡ 0x7B ∷ inner ++ 0x7D ∷ []))
 
--- some JSON text (section 2) begins so
-abbrev pub Begins : List ℕ → Type 0
-Begins front = (depth : ℕ) × (more : List ℕ) × Padded (IsSpelled depth) (front ++ more)
+-- some JSON text (section 2) begins so, in which at most so many arrays and objects enclose each other
+abbrev pub BeginsWithin : ℕ → List ℕ → Type 0
+BeginsWithin depth front = (more : List ℕ) × Padded (IsSpelled depth) (front ++ more)
+
+-- the escape of a UTF-16 code unit (section 7) stands at the front, and these bytes behind it
+abbrev pub UnitHere : List ℕ → ℕ → List ℕ → Type 0
+UnitHere bytes u rest =
+    (a : ℕ) × (b : ℕ) × (c : ℕ) × (d : ℕ) × IsTrue (is_char (unit a b c d)) × (u ≡ unit_value a b c d) × (bytes ≡ char_text (unit a b c d) ++ rest)
+
+-- the whole escape of a low surrogate stands at the front
+abbrev pub LowHere : List ℕ → Type 0
+LowHere bytes = (u : ℕ) × (rest : List ℕ) × UnitHere bytes u rest × IsTrue (is_low u)
+
+-- the escape of a surrogate without its partner stands at the front
+abbrev pub LoneHere : List ℕ → Type 0
+LoneHere bytes = (u : ℕ) × (rest : List ℕ) × UnitHere bytes u rest × (IsTrue (is_low u) ⊎ (IsTrue (is_high u) × (LowHere rest → ⊥)))
 
 -- a whole number that is out of range stands at the front
 abbrev pub NumberHere : List ℕ → Type 0
@@ -51,14 +65,18 @@ NumberHere bytes = (text : List ℕ) × (rest : List ℕ) × IsNumber text None 
 abbrev pub BracketHere : List ℕ → Type 0
 BracketHere bytes = (rest : List ℕ) × ((bytes ≡ 0x5B ∷ rest) ⊎ (bytes ≡ 0x7B ∷ rest))
 
--- the place is one in the text, and what stands before it begins some JSON text
+-- what stands before the place is UTF-8 and begins some JSON text that isn't too deep
 abbrev pub IsPlace : List ℕ → ℕ → Type 0
-IsPlace bytes place = (place ≤ length bytes) × Begins (take place bytes)
+IsPlace bytes place = (place ≤ length bytes) × IsUtf8 (take place bytes) × BeginsWithin 128 (take place bytes)
+
+-- with its next byte what stands before the place begins no JSON text, and the bytes are none
+abbrev pub IsLongest : List ℕ → ℕ → Type 0
+IsLongest bytes place = (depth : ℕ) → (place < length bytes → BeginsWithin depth (take (place + 1) bytes) → ⊥) × (Padded (IsSpelled depth) bytes → ⊥)
 
 -- what each fault tells of the bytes
 abbrev pub FaultAt : List ℕ → JsonBad → Type 0
-FaultAt bytes (bad.Syntax place) = IsPlace bytes place
-FaultAt bytes (bad.Utf8 place) = IsPlace bytes place
-FaultAt bytes (bad.Depth place) = IsPlace bytes place × BracketHere (drop place bytes)
+FaultAt bytes (bad.Syntax place) = IsPlace bytes place × IsLongest bytes place × (IsValidUpTo bytes place → ⊥)
+FaultAt bytes (bad.Utf8 place) = IsPlace bytes place × (IsValidUpTo bytes place ⊎ LoneHere (drop place bytes))
+FaultAt bytes (bad.Depth place) = IsPlace bytes place × BracketHere (drop place bytes) × (BeginsWithin 128 (take (place + 1) bytes) → ⊥)
 FaultAt bytes (bad.Number place) = IsPlace bytes place × NumberHere (drop place bytes)
 FaultAt bytes bad.Memory = Unit {0}

@@ -1,6 +1,6 @@
 use Rattle.std.proofs.Common.{sym, ◌∙◌}
 use Rattle.json_text.proofs.Fronts.{ok_same}
-use Rattle.json_text.proofs.CutValues.{fault_told}
+use Rattle.json_text.proofs.CutPlaces.{fault_told}
 use Rattle.json_text.proofs.FoundValues.{found}
 use Rattle.json_text.proofs.OnlyValues.{only}
 use Rattle.json_text.proofs.reading.read.Goals as goal
