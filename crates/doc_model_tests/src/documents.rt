@@ -1,4 +1,4 @@
-use crate::fixtures::{array, enclosed, growing_texts, long_text, member, pair, texts};
+use crate::fixtures::{array, enclosed, growing_texts, long_text, object, texts};
 use doc_model::{DocRefusal, Document, Node, Text, Texts};
 use std::alloc::{AllocError, Global};
 use std::test::Fail;
@@ -67,12 +67,11 @@ fn depths(rt: HostRuntime) -> Result<(), Fail> {
     Ok(())
 }
 
-/// `[{"a":{"a":null,"b":null},NAME:null}]`
+/// `[{NAME:null,"a":{"a":null,"b":null}}]`
 fn named(alloc: Global, name: &str) -> Result<Node, AllocError> {
-    let null = member(alloc, "a", Node::Null)?;
-    let inner = pair(alloc, null, member(alloc, "b", Node::Null)?)?;
-    let first = member(alloc, "a", inner)?;
-    array(alloc, pair(alloc, first, member(alloc, name, Node::Null)?)?)
+    let inner = object(alloc, "a", "b", Node::Null)?;
+    let outer = object(alloc, name, "a", inner)?;
+    array(alloc, outer)
 }
 
 #[test]
@@ -97,16 +96,33 @@ fn sizes(rt: HostRuntime) -> Result<(), Fail> {
     Ok(())
 }
 
+/// `/b.json` in two collections, with such an array.
+fn example(alloc: Global) -> Result<Document, Fail> {
+    let root = named(alloc, "id")?;
+    let names = texts(alloc, ["eu", "new"].as_slice())?;
+    let uri = Text::from_str(alloc, "/b.json")?;
+    Ok(Document::new(alloc, uri, names, root)?)
+}
+
+fn is_array_of_one(node: &Node) -> bool {
+    match node {
+        Node::Items(items) => items.len() == 1,
+        _ => false,
+    }
+}
+
+/// Whether a document has the parts of the example.
+fn is_example(document: &Document) -> bool {
+    // 7 bytes of the URI, 5 of the collections, 6 nodes, 5 bytes of names
+    document.uri().as_str() == "/b.json"
+        && document.collections().len() == 2
+        && is_array_of_one(document.root())
+        && document.size() == 23
+}
+
 #[test]
 fn parts_of_a_copy(rt: HostRuntime) -> Result<(), Fail> {
-    let uri = Text::from_str(rt.alloc(), "/b.json")?;
-    let names = texts(rt.alloc(), ["eu", "new"].as_slice())?;
-    let root = named(rt.alloc(), "id")?;
-    let document = Document::new(rt.alloc(), uri, names, root)?.copy(rt.alloc())?;
-    assert_eq!(rt; document.uri().as_str(), "/b.json");
-    assert_eq!(rt; document.collections().len(), 2);
-    assert!(rt; matches!(document.root(), Node::Items(items) if items.len() == 1));
-    // 7 bytes of the URI, 5 of the collections, 6 nodes, 5 bytes of names
-    assert_eq!(rt; document.size(), 23);
+    let copied = example(rt.alloc())?.copy(rt.alloc())?;
+    assert!(rt; is_example(&copied));
     Ok(())
 }

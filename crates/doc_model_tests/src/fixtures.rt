@@ -1,4 +1,4 @@
-use doc_model::{Node, Text, Texts};
+use doc_model::{Members, Node, Nodes, Text, Texts};
 use sqlite_items::Items;
 use std::alloc::{AllocError, Global};
 
@@ -25,16 +25,17 @@ pub fn growing_texts(alloc: Global, count: usize) -> Result<Texts, AllocError> {
 }
 
 pub fn array(alloc: Global, item: Node) -> Result<Node, AllocError> {
-    Ok(Node::Items(Items::from_vec(vec![in alloc; item]?)))
+    let mut items: Nodes = Items::new(alloc);
+    items.push(item)?;
+    Ok(Node::Items(items))
 }
 
-pub fn member(alloc: Global, name: &str, value: Node) -> Result<(Text, Node), AllocError> {
-    Ok((Text::from_str(alloc, name)?, value))
-}
-
-/// An object of two members.
-pub fn pair(alloc: Global, first: (Text, Node), second: (Text, Node)) -> Result<Node, AllocError> {
-    Ok(Node::Members(Items::from_vec(vec![in alloc; first, second]?)))
+/// An object of a null and this value.
+pub fn object(alloc: Global, first: &str, name: &str, value: Node) -> Result<Node, AllocError> {
+    let mut members: Members = Items::new(alloc);
+    members.push((Text::from_str(alloc, first)?, Node::Null))?;
+    members.push((Text::from_str(alloc, name)?, value))?;
+    Ok(Node::Members(members))
 }
 
 /// A tree in so many arrays and objects, in turn.
@@ -44,8 +45,7 @@ pub fn enclosed(alloc: Global, tree: Node, times: u32) -> Result<Node, AllocErro
         tree = if n % 2 == 0 {
             array(alloc, tree)?
         } else {
-            let first = member(alloc, "a", Node::Null)?;
-            pair(alloc, first, member(alloc, "b", tree)?)?
+            object(alloc, "a", "b", tree)?
         };
     }
     Ok(tree)

@@ -72,15 +72,27 @@ fn sizes(rt: HostRuntime) -> Result<(), Fail> {
     Ok(())
 }
 
+/// A copy of a removal and a put.
+fn copied(alloc: Global) -> Result<Ops, Fail> {
+    let mut list = removals(alloc, 1)?;
+    list.push(put(alloc, 9)?)?;
+    if !have_uris(&list) {
+        return Err("no URI")?;
+    }
+    Ok(Ops::new(list)?.copy(alloc)?)
+}
+
+/// Whether there are two operations, of these URIs.
+fn are_of(ops: &Ops, first: &str, second: &str) -> bool {
+    match ops.as_slice() {
+        [op, next] => op.uri().as_str() == first && next.uri().as_str() == second,
+        _ => false,
+    }
+}
+
 #[test]
 fn uris_of_a_copy(rt: HostRuntime) -> Result<(), Fail> {
-    let mut list = removals(rt.alloc(), 1)?;
-    list.push(put(rt.alloc(), 9)?)?;
-    assert!(rt; have_uris(&list));
-    let ops = Ops::new(list)?.copy(rt.alloc())?;
-    assert_eq!(rt; ops.as_slice().len(), 2);
-    for (op, uri) in ops.as_slice().iter().zip(["/removed", "/a"]) {
-        assert_eq!(rt; op.uri().as_str(), uri);
-    }
+    let ops = copied(rt.alloc())?;
+    assert!(rt; are_of(&ops, "/removed", "/a"));
     Ok(())
 }

@@ -1,5 +1,7 @@
 use crate::fixtures::texts;
-use doc_model::{Case, Indexes, Query, QueryBad, Scalar, Text, Texts, check_query};
+use doc_model::{
+    Case, Indexes, Queries, Query, QueryBad, Scalar, Scalars, Text, Texts, check_query,
+};
 use sqlite_items::{Boxed, Items};
 use std::alloc::{AllocError, Global};
 use std::test::Fail;
@@ -22,8 +24,14 @@ fn word(alloc: Global) -> Result<Query, AllocError> {
     Ok(Query::Word { texts, case })
 }
 
+fn one(alloc: Global, query: Query) -> Result<Queries, AllocError> {
+    let mut queries = Items::new(alloc);
+    queries.push(query)?;
+    Ok(queries)
+}
+
 fn or(alloc: Global, query: Query) -> Result<Query, AllocError> {
-    Ok(Query::Or(Items::from_vec(vec![in alloc; query]?)))
+    Ok(Query::Or(one(alloc, query)?))
 }
 
 fn not(alloc: Global, query: Query) -> Result<Query, AllocError> {
@@ -32,8 +40,10 @@ fn not(alloc: Global, query: Query) -> Result<Query, AllocError> {
 
 /// A near-query of a word and another query.
 fn near(alloc: Global, second: Query) -> Result<Query, AllocError> {
+    let mut queries = one(alloc, word(alloc)?)?;
+    queries.push(second)?;
     Ok(Query::Near {
-        queries: Items::from_vec(vec![in alloc; word(alloc)?, second]?),
+        queries,
         distance: 3,
         ordered: true,
     })
@@ -42,17 +52,21 @@ fn near(alloc: Global, second: Query) -> Result<Query, AllocError> {
 fn in_ands(alloc: Global, query: Query, times: u32) -> Result<Query, AllocError> {
     let mut query = query;
     for _ in 0..times {
-        query = Query::And(Items::from_vec(vec![in alloc; query]?));
+        query = Query::And(one(alloc, query)?);
     }
     Ok(query)
+}
+
+/// The answer to a query of two more queries within each other than so many.
+fn answer_at_depth(alloc: Global, times: u32) -> Result<&'static str, AllocError> {
+    let inner = or(alloc, in_ands(alloc, Query::True, times)?)?;
+    Ok(answer(alloc, &not(alloc, inner)?))
 }
 
 #[test]
 fn depths(rt: HostRuntime) -> Result<(), Fail> {
     for (times, wanted) in [(29, "ok"), (30, "deep")] {
-        let inner = in_ands(rt.alloc(), Query::True, times)?;
-        let query = not(rt.alloc(), or(rt.alloc(), inner)?)?;
-        assert_eq!(rt; answer(rt.alloc(), &query), wanted);
+        assert_eq!(rt; answer_at_depth(rt.alloc(), times)?, wanted);
     }
     Ok(())
 }
@@ -66,11 +80,19 @@ fn alike(alloc: Global, count: usize) -> Result<Texts, AllocError> {
     Ok(out)
 }
 
+fn three_scalars(alloc: Global) -> Result<Scalars, AllocError> {
+    let mut scalars = Items::new(alloc);
+    scalars.push(Scalar::Null)?;
+    scalars.push(Scalar::Bool(true))?;
+    scalars.push(Scalar::Null)?;
+    Ok(scalars)
+}
+
 /// A query of 2 names, 3 values and itself.
 fn prop_value(alloc: Global) -> Result<Query, AllocError> {
     Ok(Query::PropValue {
         names: alike(alloc, 2)?,
-        values: Items::from_vec(vec![in alloc; Scalar::Null, Scalar::Bool(true), Scalar::Null]?),
+        values: three_scalars(alloc)?,
         case: Case::Sensitive,
         exact: true,
     })
@@ -89,13 +111,22 @@ fn counted(alloc: Global, more: usize) -> Result<Query, AllocError> {
     Ok(Query::And(queries))
 }
 
+fn answer_of_copy(alloc: Global, more: usize) -> Result<&'static str, AllocError> {
+    Ok(answer(alloc, &counted(alloc, more)?.copy(alloc)?))
+}
+
 #[test]
 fn counts_of_copies(rt: HostRuntime) -> Result<(), Fail> {
     for (more, wanted) in [(9_983, "ok"), (9_984, "many")] {
-        let query = counted(rt.alloc(), more)?.copy(rt.alloc())?;
-        assert_eq!(rt; answer(rt.alloc(), &query), wanted);
+        assert_eq!(rt; answer_of_copy(rt.alloc(), more)?, wanted);
     }
     Ok(())
+}
+
+fn directory_answer(alloc: Global, uri: &str) -> Result<&'static str, AllocError> {
+    let uris = texts(alloc, ["/", uri].as_slice())?;
+    let infinite = true;
+    Ok(answer(alloc, &not(alloc, Query::Directory { uris, infinite })?))
 }
 
 #[test]
@@ -106,10 +137,7 @@ fn directories(rt: HostRuntime) -> Result<(), Fail> {
         ("/d", "directory"),
         ("", "directory"),
     ] {
-        let uris = texts(rt.alloc(), ["/", uri].as_slice())?;
-        let infinite = true;
-        let query = not(rt.alloc(), Query::Directory { uris, infinite })?;
-        assert_eq!(rt; answer(rt.alloc(), &query), wanted, "{uri}");
+        assert_eq!(rt; directory_answer(rt.alloc(), uri)?, wanted, "{uri}");
     }
     Ok(())
 }
@@ -123,12 +151,15 @@ fn child(alloc: Global, form: &str) -> Result<Query, AllocError> {
     }
 }
 
+fn near_answer(alloc: Global, form: &str) -> Result<&'static str, AllocError> {
+    let inner = or(alloc, or(alloc, child(alloc, form)?)?)?;
+    Ok(answer(alloc, &in_ands(alloc, near(alloc, inner)?, 1)?))
+}
+
 #[test]
 fn children_of_near(rt: HostRuntime) -> Result<(), Fail> {
     for (form, wanted) in [("word", "ok"), ("near", "near"), ("true", "near")] {
-        let inner = or(rt.alloc(), or(rt.alloc(), child(rt.alloc(), form)?)?)?;
-        let query = in_ands(rt.alloc(), near(rt.alloc(), inner)?, 1)?;
-        assert_eq!(rt; answer(rt.alloc(), &query), wanted, "{form}");
+        assert_eq!(rt; near_answer(rt.alloc(), form)?, wanted, "{form}");
     }
     Ok(())
 }

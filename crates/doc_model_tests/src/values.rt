@@ -3,6 +3,13 @@ use doc_model::{Dec, Indexes, Kind, Settings, Text};
 use std::alloc::{AllocError, Global};
 use std::test::Fail;
 
+fn is_kept(units: i128) -> bool {
+    match Dec::of_units(units) {
+        Some(dec) => dec.units() == units,
+        None => false,
+    }
+}
+
 #[test]
 fn decimals(rt: HostRuntime) {
     let limit: i128 = 100_000_000_000_000_000_000_000_000_000_000_000_000;
@@ -13,8 +20,7 @@ fn decimals(rt: HostRuntime) {
         (1 - limit, true),
         (-limit, false),
     ] {
-        let taken = Dec::of_units(units).is_some_and(|dec| dec.units() == units);
-        assert_eq!(rt; taken, is_taken, "{units}");
+        assert_eq!(rt; is_kept(units), is_taken, "{units}");
     }
 }
 
@@ -41,22 +47,28 @@ fn indexes(rt: HostRuntime) -> Result<(), Fail> {
     Ok(())
 }
 
-#[test]
-fn settings_of_a_copy(rt: HostRuntime) -> Result<(), Fail> {
-    let list = pairs(rt.alloc(), 2)?;
-    let settings = Settings {
+fn settings(alloc: Global) -> Result<Settings, Fail> {
+    let list = pairs(alloc, 2)?;
+    Ok(Settings {
         indexes: Indexes::new(list).ok_or("refused")?,
         save_at: 10_000,
         merge_at: 8,
-    };
-    let copied = settings.copy(rt.alloc())?;
-    assert_eq!(rt; (copied.save_at, copied.merge_at), (10_000, 8));
-    for (name, kind, is_there) in [
-        ("aa", Kind::Text, true),
-        ("aa", Kind::Decimal, false),
-        ("A", Kind::Text, false),
-    ] {
-        assert_eq!(rt; copied.indexes.has(name, kind), is_there, "{name}");
-    }
+    })
+}
+
+/// Whether settings are those above.
+fn are_kept(settings: &Settings) -> bool {
+    settings.save_at == 10_000
+        && settings.merge_at == 8
+        && settings.indexes.has("a", Kind::Text)
+        && settings.indexes.has("aa", Kind::Text)
+        && !settings.indexes.has("aa", Kind::Decimal)
+        && !settings.indexes.has("A", Kind::Text)
+}
+
+#[test]
+fn settings_of_a_copy(rt: HostRuntime) -> Result<(), Fail> {
+    let copied = settings(rt.alloc())?.copy(rt.alloc())?;
+    assert!(rt; are_kept(&copied));
     Ok(())
 }
