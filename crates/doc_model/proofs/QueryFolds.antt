@@ -1,5 +1,5 @@
 -- The rules of a query from those of its children.
-use Rattle.std.proofs.Common.{◌≡◌, ℕ, ◌+◌, ◌&&◌, Bool, true, false, List, [], ◌∷◌, ◌++◌, map, refl, sym, ap, ◌∙◌, sum, sum_by, flat_map, append-nil}
+use Rattle.std.proofs.Common.{◌≡◌, ℕ, ◌+◌, ◌&&◌, Bool, true, false, List, ◌++◌, map, refl, sym, ap, ◌∙◌, sum_by, flat_map, append-nil}
 use Rattle.std.proofs.lemmas.List.Folds.{list_all-map, flat_map-map}
 use Rattle.std.proofs.lemmas.List.Sums.{sum-map}
 use Rattle.std.specs.List.{list_all}
@@ -8,7 +8,7 @@ use Rattle.doc_model.specs.declared.query.Query.{Query}
 use Rattle.doc_model.specs.declared.query.Query.TheVariants as query
 use Rattle.doc_model.specs.declared.query.Query.TheOpen.{Query-F}
 use Rattle.doc_model.specs.declared.query.Query.TheFolds.{fold-roll-Query}
-use Rattle.doc_model.specs.Queries.{query_depth, depth_step, query_count, count_step, wanted_indexes, indexes_step, Index, kinds_of, directories_end, directories_step, ends_with_slash, near_fit, near_step}
+use Rattle.doc_model.specs.Queries.{query_depth, depth_step, query_count, count_step, wanted_indexes, indexes_step, Index, directories_end, directories_step, ends_with_slash, near_fit, near_step}
 use Rattle.doc_model.specs.Tree.{greatest}
 
 pub depth_near : (qs : List Query) (d : ℕ) (o : Bool) → query_depth (query.Near qs d o) ≡ 1 + greatest (map query_depth qs)

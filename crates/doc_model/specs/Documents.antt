@@ -1,5 +1,5 @@
 -- Documents, and the rules that each keeps.
-use Rattle.std.specs.Prelude.{ℕ, ◌≡◌, ◌⊎◌, Bool, ◌+◌, ◌^◌, nat_lt, not, List, length, sum_by, Option, Some, None, is_none, IsTrue, if◌then◌else◌, refl}
+use Rattle.std.specs.Prelude.{ℕ, ◌≡◌, ◌⊎◌, ◌+◌, ◌^◌, nat_lt, not, List, length, sum_by, Option, Some, None, is_none, IsTrue, if◌then◌else◌, refl}
 use Rattle.std.specs.Coded.{Coded, code_by, coded×, coded_list, coded_ℕ}
 use Rattle.doc_model.specs.contracts.node.Node as node
 use Rattle.doc_model.specs.declared.node.Node.{Node}

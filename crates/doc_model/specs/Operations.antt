@@ -1,5 +1,5 @@
 -- Operations, and the rules that those of one commit keep.
-use Rattle.std.specs.Prelude.{ℕ, Bool, true, ◌+◌, ◌^◌, ◌||◌, nat_lt, ◌==◌, List, length, sum_by, Option, Some, None, is_none, IsTrue, if◌then◌else◌}
+use Rattle.std.specs.Prelude.{ℕ, Bool, true, ◌^◌, ◌||◌, nat_lt, ◌==◌, List, length, sum_by, Option, Some, None, is_none, IsTrue, if◌then◌else◌}
 use Rattle.std.specs.List.{list_all}
 use Rattle.doc_model.specs.declared.op.Op.{Op}
 use Rattle.doc_model.specs.declared.op.Op.TheVariants.{Put, Remove}

@@ -1,5 +1,4 @@
 use Rattle.std.proofs.Common.{arith, ap, ◌∙◌}
-use Rattle.std.proofs.lemmas.Grind.{common_steps}
 use Rattle.doc_model.specs.Tree.{depth}
 use Rattle.doc_model.proofs.DepthLemmas.{depth_members}
 use Rattle.doc_model.proofs.depth.+within.Goals as goal

@@ -1,4 +1,4 @@
-use Rattle.std.proofs.Common.{◌≡◌, ℕ, Result, Ok, Err, IfOk, true, false, Bool, map, ◌∙◌, sym, ap, List, ◌&&◌}
+use Rattle.std.proofs.Common.{◌≡◌, ℕ, Result, Ok, Err, IfOk, Bool, map, ◌∙◌, sym, ap, List, ◌&&◌}
 use Rattle.std.specs.List.{list_all}
 use Rattle.doc_model.specs.declared.node.Node.{Node}
 use Rattle.doc_model.specs.declared.node.Node.TheVariants as node

@@ -1,11 +1,9 @@
-use Rattle.std.proofs.Common.{◌≡◌, ℕ, List, map, drop, ap, sym, ◌∙◌, false, is_some, arith}
+use Rattle.std.proofs.Common.{map, ap, sym, ◌∙◌, false, is_some, arith}
 use Rattle.std.proofs.lemmas.List.{drop_all}
-use Rattle.std.specs.BTreeMap.{get_by}
 use Rattle.std.specs.Map.{lookup}
 use Rattle.std.specs.BTreeMap.{is_at}
 use Rattle.std.specs.Cmp.Lexicographic.{slice_cmp}
 use Rattle.std.specs.Ordering.{nat_cmp}
-use Rattle.doc_model.specs.Tree.{is_distinct}
 use Rattle.doc_model.proofs.NamesLemmas.{are_fresh, has_name, fresh_first, fresh_same, fresh_more, stale_here}
 use Rattle.doc_model.proofs.names.is_distinct.Goals as goal
 

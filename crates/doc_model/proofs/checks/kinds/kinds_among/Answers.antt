@@ -1,4 +1,4 @@
-use Rattle.std.proofs.Common.{◌+◌, ◌++◌, Some, None, drop, sym, ap, ◌∙◌, subst}
+use Rattle.std.proofs.Common.{◌+◌, ◌++◌, Some, None, drop, sym, ◌∙◌, subst}
 use Rattle.doc_model.specs.declared.checks.kinds.Kinds.{Kinds}
 use Rattle.doc_model.specs.Kinds.{FindAlike, listed}
 use Rattle.doc_model.specs.Queries.{kinds_of}

@@ -1,4 +1,4 @@
-use Rattle.std.proofs.Common.{◌≡◌, ℕ, List, ◌∙◌, ap, sym, map, flat_map, not, Bool, Option, Some, None, ◌++◌, Result, IfOk, Ok, Err}
+use Rattle.std.proofs.Common.{◌≡◌, List, ◌∙◌, ap, sym, not, Bool, Option, Some, None, ◌++◌, Result, IfOk, Ok, Err}
 use Rattle.std.specs.List.{find}
 use Rattle.doc_model.specs.Queries.{Index, is_indexed, wanted_indexes, missing_index}
 use Rattle.doc_model.proofs.Finding.{find_past, find_here}

@@ -1,4 +1,4 @@
-use Rattle.std.proofs.Common.{◌≡◌, ℕ, List, ◌∙◌, ap, sym, map, not, Some, None}
+use Rattle.std.proofs.Common.{ℕ, List, ◌∙◌, ap, sym, map, not, Some}
 use Rattle.doc_model.specs.Queries.{Index, is_indexed, kinds_of}
 use Rattle.doc_model.proofs.Finding.{find_past, find_here}
 use Rattle.doc_model.proofs.KindsLemmas.{missing_alike}
