@@ -27,6 +27,7 @@ impl MemorySource {
         ensures left { ⟦<MemorySource as Source>⟧.left result ≡ Some bytes.items }
         ensures piece { result.piece ≡ piece }
         ensures faults { ⟦<MemorySource as Source>⟧.faults result ≡ 0 }
+        ensures plan { (result.faults.plan ≡ plan) × (result.faults.calls ≡ 0) }
     {
         MemorySource {
             bytes,
@@ -78,6 +79,7 @@ impl MemorySink {
     pub fn new(alloc: Global, plan: Plan) -> Self
         ensures written { ⟦<MemorySink as Sink>⟧.written result ≡ Some [] }
         ensures faults { ⟦<MemorySink as Sink>⟧.faults result ≡ 0 }
+        ensures plan { (result.faults.plan ≡ plan) × (result.faults.calls ≡ 0) }
     {
         MemorySink {
             bytes: Vec::new(alloc),

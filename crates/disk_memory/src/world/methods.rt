@@ -19,6 +19,7 @@ impl MemoryWorld {
         ensures stands { (dir : List ℕ) → ⟦<MemoryWorld as World>⟧.stands result dir ≡ Some None }
         ensures printed { ⟦<MemoryWorld as World>⟧.printed result ≡ Some [] }
         ensures faults { ⟦<MemoryWorld as World>⟧.faults result ≡ 0 }
+        ensures plan { (result.faults.plan ≡ plan) × (result.faults.calls ≡ 0) }
     {
         MemoryWorld {
             alloc,
@@ -40,6 +41,12 @@ impl MemoryWorld {
             (⟦<MemoryWorld as World>⟧.stands self.new ≡ ⟦<MemoryWorld as World>⟧.stands self.old) }
         ensures others { (other : List ℕ) → other ≢ dir.now
             → ⟦<MemoryWorld as World>⟧.stands self.new other ≡ ⟦<MemoryWorld as World>⟧.stands self.old other }
+        ensures stores { ⟦<MemoryWorld as World>⟧.stores self.new ≡ ⟦<MemoryWorld as World>⟧.stores self.old }
+        ensures directories { ⟦<MemoryWorld as World>⟧.directories self.new
+            ≡ ⟦<MemoryWorld as World>⟧.directories self.old }
+        ensures clients { ⟦<MemoryWorld as World>⟧.clients self.new ≡ ⟦<MemoryWorld as World>⟧.clients self.old }
+        ensures printed { ⟦<MemoryWorld as World>⟧.printed self.new ≡ ⟦<MemoryWorld as World>⟧.printed self.old }
+        ensures faults { self.new.faults ≡ self.old.faults }
     {
         let directory = String::from_str(self.alloc, dir)?;
         self.directories.insert(directory, store)?;
