@@ -15,7 +15,7 @@ use Rattle.doc_model.specs.declared.entry.Entry.TheVariants.{Commit, Forget}
 use Rattle.doc_model.specs.declared.op.Op.{Op}
 use Rattle.doc_model.specs.declared.op.Op.TheVariants.{Put, Remove}
 use Rattle.doc_meaning.specs.declared.version.Version.{Version}
-use Rattle.doc_meaning.specs.History.{AreEntries, Base, Database, History, IsBase, IsHistory, after_entries, after_entry, after_op, after_ops, base_at, database_at, front, merge, merge_after, shown}
+use Rattle.doc_meaning.specs.History.{AreEntries, Database, History, after_entries, after_entry, after_op, after_ops, base_at, database_at, front, merge, merge_after, shown}
 use Rattle.doc_meaning.specs.Laws.{ShownIsABase}
 
 -- each version stands under its own URI
