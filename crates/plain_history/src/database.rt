@@ -2,6 +2,7 @@ ghost use Rattle.std.specs.Prelude.{◌≡◌, OnOk, OnErr};
 ghost use Rattle.std.specs.FinMap as map;
 ghost use Rattle.std.specs.Option.{option_copied};
 ghost use Rattle.doc_meaning.specs.History.{after_op, after_ops, after_entry};
+ghost use Rattle.doc_meaning.specs.declared.version.Version.{Version};
 
 mod answers;
 
@@ -47,7 +48,8 @@ impl Database {
     }
 
     fn put(&mut self, alloc: Global, document: Document, created: u64) -> Result<(), AllocError>
-        ensures ok { OnOk result (self.new ≡ map.insert self.old document.uri (record { document = document; created = created })) }
+        ensures ok { let version : Version = record { document = document; created = created } in
+            OnOk result (self.new ≡ map.insert self.old document.uri version) }
         ensures err { OnErr result (self.new ≡ self.old) }
     {
         let uri = document.uri().copy(alloc)?;
@@ -84,7 +86,12 @@ impl Database {
     }
 
     /// Changes the database by the entry at a timestamp. After an error it holds some of the changes.
-    pub fn apply_entry(&mut self, alloc: Global, entry: &Entry, at: u64) -> Result<(), AllocError>
+    pub(crate) fn apply_entry(
+        &mut self,
+        alloc: Global,
+        entry: &Entry,
+        at: u64,
+    ) -> Result<(), AllocError>
         ensures { OnOk result (self.new ≡ after_entry at entry.now self.old) }
     {
         match entry {

@@ -1,4 +1,5 @@
 ghost use Rattle.std.specs.Prelude.{◌≡◌, IfOk};
+ghost use Rattle.doc_model.specs.Queries.{broken_query_rule};
 
 use crate::History;
 use doc_meaning::ReadReply;
@@ -18,14 +19,11 @@ impl History {
     ) -> Result<ReadReply<Texts>, AllocError>
         ensures { IfOk result (λ reply. reply ≡ search_reply (history_of self.now) at query.now) }
     {
-        match check_query(alloc, query, &self.settings.indexes) {
-            Ok(()) => {
-                let found = self.database_at(alloc, at)?.answer(alloc, query)?;
-                Ok(self.reply_at(at, found))
-            }
-            Err(QueryBad::Memory) => Err(AllocError),
-            Err(why) => Ok(ReadReply::Bad(why)),
+        if let Some(why) = self.broken_rule(alloc, query)? {
+            return Ok(ReadReply::Bad(why));
         }
+        let found = self.database_at(alloc, at)?.answer(alloc, query)?;
+        Ok(self.reply_at(at, found))
     }
 
     /// How many documents at a timestamp may satisfy a query, or why that isn't told.
@@ -37,13 +35,21 @@ impl History {
     ) -> Result<ReadReply<u64>, AllocError>
         ensures { IfOk result (λ reply. reply ≡ estimate_reply (history_of self.now) at query.now) }
     {
+        if let Some(why) = self.broken_rule(alloc, query)? {
+            return Ok(ReadReply::Bad(why));
+        }
+        let found = self.database_at(alloc, at)?.estimate(alloc, query)?;
+        Ok(self.reply_at(at, found))
+    }
+
+    /// The first rule that a query breaks.
+    fn broken_rule(&self, alloc: Global, query: &Query) -> Result<Option<QueryBad>, AllocError>
+        ensures { IfOk result (λ why. why ≡ broken_query_rule query.now self.now.settings.indexes) }
+    {
         match check_query(alloc, query, &self.settings.indexes) {
-            Ok(()) => {
-                let found = self.database_at(alloc, at)?.estimate(alloc, query)?;
-                Ok(self.reply_at(at, found))
-            }
+            Ok(()) => Ok(None),
             Err(QueryBad::Memory) => Err(AllocError),
-            Err(why) => Ok(ReadReply::Bad(why)),
+            Err(why) => Ok(Some(why)),
         }
     }
 }

@@ -4,4 +4,5 @@ use Rattle.plain_history.proofs.EntriesLemmas.{get_key}
 use Rattle.plain_history.proofs.database.Database.get.Goals as goal
 
 pub returns : goal.returns
-returns c = c.get.ensures.value ∙ sym (get_key c.self.inside.live.entries c.args.uri.now) ∙ ap (λ m. map.get m c.args.uri.now) c.self.view_is
+returns c = c.get.ensures.value ∙ sym (get_key c.self.inside.live.entries c.args.uri.now)
+    ∙ ap (λ m. map.get m c.args.uri.now) c.self.view_is

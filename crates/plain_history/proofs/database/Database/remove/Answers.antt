@@ -1,4 +1,4 @@
-use Rattle.std.proofs.Common.{ap, ◌∙◌, sym}
+use Rattle.std.proofs.Common.{ap, ◌∙◌}
 use Rattle.std.specs.FinMap as map
 use Rattle.plain_history.proofs.EntriesLemmas.{one_removed}
 use Rattle.plain_history.proofs.database.Database.remove.Goals as goal
