@@ -76,9 +76,9 @@ found_after_entries begin [] db uri v is = inl is
 found_after_entries begin (entry ∷ entries) db uri v is =
     ⊎_elim
     (λ was. ⊎_elim
-      (λ put. inr (record { nth = 1; first = omega arith; last = omega arith; stamp = put.0; key = put.1; there = was }))
-      (λ old. inl old)
-      (found_after_entry (begin + 1) entry db uri v was))
+    (λ put. inr (record { nth = 1; first = omega arith; last = omega arith; stamp = put.0; key = put.1; there = was }))
+    (λ old. inl old)
+    (found_after_entry (begin + 1) entry db uri v was))
     (λ later. inr (record {
       nth = later.nth + 1;
       first = omega arith;
@@ -124,20 +124,27 @@ module _ (h : History) where
       IsOld h at uri v ⊎ IsNew h at uri v
   origin at uri v ordered low is = ⊎_elim
       (λ (old : (leb at h.base.front ≡ true) × (at ≤ h.base.front)). inl (record {
-        from = at; low = low; high = old.1; before = omega arith;
+        from = at;
+        low = low;
+        high = old.1;
+        before = omega arith;
         there = ap (λ db. get db uri) (sym (cond-true (leb at h.base.front) (base_at h.base at) later old.0)) ∙ is;
       }))
       (λ (past : (leb at h.base.front ≡ false) × (h.base.front < at)).
-        let found : get later uri ≡ Some v = ap (λ db. get db uri) (sym (cond-false (leb at h.base.front) (base_at h.base at) later past.0)) ∙ is in
-        ⊎_elim
-        (λ was. inl (record { from = h.base.front; low = ordered; high = omega arith; before = omega (arith, past.1); there = was }))
-        (λ (put : IsPut h.base.front (take n h.entries) (base_at h.base h.base.front) uri v).
-          let within : put.nth ≤ n = omega (arith, put.last, length-take n h.entries) in
-          inr (record {
-            nth = put.nth; first = put.first; stamp = put.stamp; before = omega (arith, past.1); key = put.key;
-            there = ap (λ es. get (after_entries h.base.front es (base_at h.base h.base.front)) uri) (sym (take-take put.nth n h.entries within)) ∙ put.there;
-          }))
-        (found_after_entries h.base.front (take n h.entries) (base_at h.base h.base.front) uri v found))
+      let found : get later uri ≡ Some v = ap (λ db. get db uri) (sym (cond-false (leb at h.base.front) (base_at h.base at) later past.0)) ∙ is in
+      ⊎_elim
+      (λ was. inl (record { from = h.base.front; low = ordered; high = omega arith; before = omega (arith, past.1); there = was }))
+      (λ (put : IsPut h.base.front (take n h.entries) (base_at h.base h.base.front) uri v).
+      let within : put.nth ≤ n = omega (arith, put.last, length-take n h.entries) in
+      inr (record {
+        nth = put.nth;
+        first = put.first;
+        stamp = put.stamp;
+        before = omega (arith, past.1);
+        key = put.key;
+        there = ap (λ es. get (after_entries h.base.front es (base_at h.base h.base.front)) uri) (sym (take-take put.nth n h.entries within)) ∙ put.there;
+      }))
+      (found_after_entries h.base.front (take n h.entries) (base_at h.base h.base.front) uri v found))
       (leb_tells at h.base.front)
     where
       n : ℕ
@@ -157,9 +164,12 @@ module _ (h : History) where
   shown_at : (at : ℕ) (uri : List ℕ) (v : Version) → merge h ≤ front h → get (base_at (shown h) at) uri ≡ Some v → IsShown at uri v
   shown_at at uri v ordered is = ⊎_elim
       (λ (past : (leb count i ≡ true) × (count ≤ i)).
-        absurd (none_some v (sym (get-empty (slice_cmp nat_cmp) uri) ∙ ap (λ db. get db uri) (sym (get_or_past (shown h).databases i empty (omega (arith, length-map-range_with_len (database_at h) (merge h) count, past.1)))) ∙ is)))
+      absurd (none_some v (sym (get-empty (slice_cmp nat_cmp) uri) ∙ ap (λ db. get db uri) (sym (get_or_past (shown h).databases i empty (omega (arith, length-map-range_with_len (database_at h) (merge h) count, past.1)))) ∙ is)))
       (λ (within : (leb count i ≡ false) × (i < count)). record {
-        to = merge h + i; low = omega arith; high = omega (arith, within.1); same = λ le. omega arith;
+        to = merge h + i;
+        low = omega arith;
+        high = omega (arith, within.1);
+        same = λ le. omega arith;
         there = ap (λ db. get db uri) (sym (get_or-map-range_with_len (database_at h) (merge h) count i (merge h + i) empty within.1 refl)) ∙ is;
       })
       (leb_tells count i)
@@ -194,7 +204,7 @@ shown_is_a_base h is = record {
         let to : s.to ≡ at = s.same low in
         ⊎_elim
         (λ (old : IsOld h s.to uri v).
-          let created = is.base.stamps old.from uri v old.low old.high old.there in (created.0, omega (arith, created.1, old.before, to)))
+        let created = is.base.stamps old.from uri v old.low old.high old.there in (created.0, omega (arith, created.1, old.before, to)))
         (λ (new : IsNew h s.to uri v). (omega (arith, new.stamp, new.first), omega (arith, new.stamp, new.before, to)))
         (found at uri v s).1
 
@@ -202,17 +212,17 @@ shown_is_a_base h is = record {
         v.created ≡ w.created → v ≡ w
     alike uri v w f g created = ⊎_elim
         (λ (old : IsOld h f.0 uri v).
-          let stamped = is.base.stamps old.from uri v old.low old.high old.there in
-          ⊎_elim
-          (λ (also : IsOld h g.0 uri w). is.base.same old.from also.from uri v w old.there also.there created)
-          (λ (new : IsNew h g.0 uri w). absurd (omega (arith, stamped.1, old.high, new.stamp, new.first, created)))
-          g.1)
+        let stamped = is.base.stamps old.from uri v old.low old.high old.there in
+        ⊎_elim
+        (λ (also : IsOld h g.0 uri w). is.base.same old.from also.from uri v w old.there also.there created)
+        (λ (new : IsNew h g.0 uri w). absurd (omega (arith, stamped.1, old.high, new.stamp, new.first, created)))
+        g.1)
         (λ (new : IsNew h f.0 uri v). ⊎_elim
-          (λ (old : IsOld h g.0 uri w).
-            let stamped = is.base.stamps old.from uri w old.low old.high old.there in
-            absurd (omega (arith, stamped.1, old.high, new.stamp, new.first, created)))
-          (λ (also : IsNew h g.0 uri w).
-            let nth : new.nth ≡ also.nth = omega (arith, new.stamp, also.stamp, created) in
-            same_some v w (sym new.there ∙ ap (λ n. get (after_entries h.base.front (take n h.entries) (base_at h.base h.base.front)) uri) nth ∙ also.there))
-          g.1)
+        (λ (old : IsOld h g.0 uri w).
+        let stamped = is.base.stamps old.from uri w old.low old.high old.there in
+        absurd (omega (arith, stamped.1, old.high, new.stamp, new.first, created)))
+        (λ (also : IsNew h g.0 uri w).
+        let nth : new.nth ≡ also.nth = omega (arith, new.stamp, also.stamp, created) in
+        same_some v w (sym new.there ∙ ap (λ n. get (after_entries h.base.front (take n h.entries) (base_at h.base h.base.front)) uri) nth ∙ also.there))
+        g.1)
         f.1

@@ -13,8 +13,8 @@ pub use bounds::Bounds;
 pub use laws::{
     and_satisfies_each, answers_are_sorted, estimate_is_no_less, first_ends_there,
     first_is_the_same, later_entries_change_nothing, near_holds_further, near_is_a_choice,
-    others_stay, put_is_live, removed_is_gone, rising_rises, satisfies_maybe, shown_is_a_base, shown_is_the_same,
-    sure_satisfies, words_are_maximal_runs,
+    others_stay, put_is_live, removed_is_gone, rising_rises, satisfies_maybe, shown_is_a_base,
+    shown_is_the_same, sure_satisfies, words_are_maximal_runs,
 };
 pub use meaning::Meaning;
 pub use replies::{CommitReply, ForgetReply, LookReply, ReadReply};

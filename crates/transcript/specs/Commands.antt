@@ -46,13 +46,13 @@ object_of members = node.Members (map (λ m. (m.name, node.Text m.value)) member
 abbrev pub IsPut : List ℕ → List ℕ → List TextMember → Type 0
 IsPut line uri members =
     IsUtf8 uri × IsTrue (is_uri uri) × ArePlain members
-        × (line ≡ codes "put " ++ uri ++ codes " " ++ object_text members)
+    × (line ≡ codes "put " ++ uri ++ codes " " ++ object_text members)
 
 -- the line is `search` and a word query of one word
 abbrev pub IsSearch : List ℕ → List ℕ → Type 0
 IsSearch line word =
     IsUtf8 word × (words word ≡ (0, length word) ∷ [])
-        × (line ≡ codes "search {\"wordQuery\":{\"text\":[\"" ++ word ++ codes "\"]}}")
+    × (line ≡ codes "search {\"wordQuery\":{\"text\":[\"" ++ word ++ codes "\"]}}")
 
 -- the query for one word
 abbrev pub word_query : List ℕ → Query
@@ -62,7 +62,7 @@ word_query word = query.Word (word ∷ []) Auto
 abbrev pub Asks : List ℕ → Command → Type 0
 Asks line (command.Commit ops) =
     (uri : List ℕ) × (members : List TextMember) × IsPut line uri members
-        × (ops ≡ Put (document_of uri [] (object_of members)) None ∷ [])
+    × (ops ≡ Put (document_of uri [] (object_of members)) None ∷ [])
 Asks line (command.Search q Front) = (word : List ℕ) × IsSearch line word × (q ≡ word_query word)
 Asks line command.Quit = line ≡ codes "quit"
 Asks line _ = ⊥

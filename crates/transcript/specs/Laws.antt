@@ -19,7 +19,7 @@ LaterTurnsChangeNothing = (base : Base) (turns later : List Turn) (session : Ses
 abbrev pub Enters : Turn → ℕ → Entry → Type 0
 Enters turn at made =
     ((ops : List Op)
-        × (turn.call ≡ commit ops) × (turn.answer ≡ commits (committed.Entered at)) × (made ≡ entry.Commit ops))
+    × (turn.call ≡ commit ops) × (turn.answer ≡ commits (committed.Entered at)) × (made ≡ entry.Commit ops))
     ⊎ ((to : ℕ) × (turn.call ≡ forget to) × (turn.answer ≡ forgets (forgot.Entered at)) × (made ≡ entry.Forget to))
 
 -- the history of legal turns has the entry of each accepted commit and forget at the timestamp that it was answered:

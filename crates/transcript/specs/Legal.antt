@@ -21,12 +21,12 @@ IsStart None answer = ((number : ℕ) × (answer ≡ starts number)) ⊎ (answer
 abbrev pub Answers : Base → ℕ → List Turn → Event → Answer → Type 0
 Answers base longest before (commit ops) answer =
     ((full : Bool) × MayBeFull base longest before full
-        × (answer ≡ commits (commit_reply full (history_of base before) ops)))
-        ⊎ (answer ≡ fault)
+    × (answer ≡ commits (commit_reply full (history_of base before) ops)))
+    ⊎ (answer ≡ fault)
 Answers base longest before (forget to) answer =
     ((full : Bool) × MayBeFull base longest before full
-        × (answer ≡ forgets (forget_reply full (history_of base before) to)))
-        ⊎ (answer ≡ fault)
+    × (answer ≡ forgets (forget_reply full (history_of base before) to)))
+    ⊎ (answer ≡ fault)
 Answers base longest before look answer = answer ≡ looks (look_reply (history_of base before))
 Answers base longest before (wish what) answer = answer ≡ done
 Answers base longest before start_save answer = IsStart (job_of before) answer
@@ -37,7 +37,7 @@ Answers base longest before (abandon number) answer = answer ≡ done
 Answers base longest before tidy answer = (answer ≡ done) ⊎ (answer ≡ fault)
 Answers base longest before revive answer =
     (answer ≡ revives (front (history_of base before)))
-        ⊎ ((count : ℕ) × (down_of before ≡ Some count) × (answer ≡ fault))
+    ⊎ ((count : ℕ) × (down_of before ≡ Some count) × (answer ≡ fault))
 
 -- the events that a log fault stops
 abbrev pub is_stopped : Event → Bool
@@ -87,7 +87,7 @@ pub record IsTurn (base : Base) (longest : ℕ) (before : List Turn) (turn : Tur
   pub of_job : IsOfJob (job_of before) turn.author turn.call
   pub answers : (IsTrue (takes_memory turn.call) × (turn.answer ≡ memory))
       ⊎ UnlessDown (is_stopped turn.call) (down_of before) turn.answer
-          (Answers base longest before turn.call turn.answer)
+      (Answers base longest before turn.call turn.answer)
   pub is_down : IsDown before turn.call turn.answer turn.down
 
 -- each turn may follow those before it; `longest` is the length of the longest journal at opening

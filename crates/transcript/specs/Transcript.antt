@@ -51,7 +51,7 @@ Uses used call answer = (visit : Visit) × (used ≡ visit ∷ []) × (visit.tur
 abbrev pub Looks : Base → List Visit → History → Type 0
 Looks base used h =
     (visit : Visit) × (used ≡ visit ∷ []) × (visit.turn.call ≡ look) × (visit.turn.answer ≡ looks (look_reply h))
-        × (h ≡ history_of base visit.before)
+    × (h ≡ history_of base visit.before)
 
 -- the reply to a commit by what its turn is answered
 abbrev pub commit_said : Answer → Reply
@@ -102,7 +102,7 @@ estimate_said q h at = read_said (λ count. reply.Estimate count at (front h)) (
 abbrev pub version_said : ℕ → ℕ → Version → Reply
 version_said at latest v =
     reply.Doc v.created at latest
-        (0x5B ∷ joined (map quoted v.document.collections) ++ 0x5D ∷ []) (node_text v.document.root)
+    (0x5B ∷ joined (map quoted v.document.collections) ++ 0x5D ∷ []) (node_text v.document.root)
 
 abbrev pub get_said : List ℕ → History → ℕ → Reply
 get_said uri h at =
@@ -137,7 +137,7 @@ Answers base old command.Pin used answer new =
     (h : History) × Looks base used h × (answer ≡ reply.Ok (front h)) × (new ≡ record old { pin = Some h })
 Answers base old command.Unpin used answer new =
     (used ≡ []) × (answer ≡ option_map_or (λ h. reply.Ok (front h)) old.pin reply.NoPin)
-        × (new ≡ record old { pin = None })
+    × (new ≡ record old { pin = None })
 Answers base old command.Save used answer new = Uses used (wish Save) done × (answer ≡ reply.Wished) × (new ≡ old)
 Answers base old command.Merge used answer new = Uses used (wish Merge) done × (answer ≡ reply.Wished) × (new ≡ old)
 Answers base old command.Revive used answer new =
@@ -154,7 +154,7 @@ reads_documents _ = false
 abbrev pub IsExcused : Base → Carried → Command → List Visit → Reply → Carried → Type 0
 IsExcused base old asked used answer new =
     IsTrue (reads_documents asked) × ((instead : Reply) × Answers base old asked used instead old)
-        × (answer ≡ reply.Fault) × (new.pin ≡ old.pin) × (new.excused + 1 ≡ old.excused)
+    × (answer ≡ reply.Fault) × (new.pin ≡ old.pin) × (new.excused + 1 ≡ old.excused)
 
 -- whether a command uses a look
 abbrev pub uses_look : Command → Bool
@@ -172,8 +172,8 @@ uses_look _ = false
 abbrev pub LacksMemory : List ℕ → Carried → List Visit → Reply → Carried → Type 0
 LacksMemory line old used answer new =
     ((used ≡ [])
-        ⊎ ((asked : Command) × (said : Answer) × Asks line asked × IsTrue (uses_look asked) × Uses used look said))
-        × (answer ≡ reply.Memory) × (new ≡ old)
+    ⊎ ((asked : Command) × (said : Answer) × Asks line asked × IsTrue (uses_look asked) × Uses used look said))
+    × (answer ≡ reply.Memory) × (new ≡ old)
 
 -- a line that asks nothing that is read so far
 abbrev pub IsLater : List ℕ → Carried → List Visit → Reply → Carried → Type 0
@@ -186,7 +186,7 @@ AnswersLine base old [] used answer new = (used ≡ []) × (answer ≡ None) × 
 AnswersLine base old line used None new = ⊥
 AnswersLine base old line used (Some answer) new =
     ((asked : Command) × Asks line asked
-        × (Answers base old asked used answer new ⊎ IsExcused base old asked used answer new))
+    × (Answers base old asked used answer new ⊎ IsExcused base old asked used answer new))
     ⊎ IsLater line old used answer new ⊎ LacksMemory line old used answer new
 
 -- a line that was served: the turns that it used, and its reply
@@ -200,7 +200,7 @@ abbrev pub AnswersLines : Base → Carried → List Served → Carried → Type 
 AnswersLines base old [] new = new ≡ old
 AnswersLines base old (first ∷ others) new =
     (mid : Carried) × AnswersLine base old (said first.line) first.used first.answer mid
-        × AnswersLines base mid others new
+    × AnswersLines base mid others new
 
 abbrev pub lines_of : List Served → List Line
 lines_of served = map (λ s. s.line) served
@@ -230,7 +230,7 @@ Ends end.Long lines behind texts output =
 Ends end.ReadFault lines behind texts output = AllStay lines × HasNoFeed behind × (output ≡ texts)
 Ends end.WriteFault lines behind texts output = (n : ℕ)
     × (((AllStay lines ⊎ LastQuits lines) × (output ≡ take n texts))
-        ⊎ (AllStay lines × IsPastLimits lines behind × (output ≡ take n (texts ++ text_of reply.Long))))
+    ⊎ (AllStay lines × IsPastLimits lines behind × (output ≡ take n (texts ++ text_of reply.Long))))
 Ends end.Memory lines behind texts output = (lines ≡ []) × (behind ≡ []) × (output ≡ [])
 
 -- a session from outside: its author, what it read and wrote, how it ended, and by how much the two counts of its
