@@ -14,10 +14,11 @@ use Rattle.doc_model.specs.declared.refusal.DocRefusal.{DocRefusal}
 use Rattle.doc_model.specs.declared.refusal.DocRefusal.TheVariants as rule
 use Rattle.docs_format.specs.Answers.{Answers}
 use Rattle.docs_format.specs.Spelling as spell
-use Rattle.docs_format.specs.Reading.{document_at, document_of, whole_of}
+use Rattle.docs_format.specs.Reading.{document_at, document_of, sized_document_at, whole_of}
 use Rattle.docs_format.specs.declared.fault.DocBytesBad.{DocBytesBad}
 use Rattle.docs_format.proofs.CollectionsAgain.{collections_again}
 use Rattle.docs_format.proofs.Fields.{uri_again}
+use Rattle.docs_format.proofs.Keeping.{kept}
 use Rattle.docs_format.proofs.NodesAgain.{node_again}
 
 none_then : (b : Bool) (r : DocRefusal) (o : Option DocRefusal)
@@ -73,6 +74,14 @@ pub spelled_again : (bytes more : List ℕ) (d : PlainDocument) → spell.Spells
 spelled_again bytes more d s =
     ap (λ (t : List ℕ). document_at (t ++ more)) s.spelled
     ∙ document_again d more (keeps d s.rules) (from_true (spell.are_values d) s.values)
+
+pub sized_again : (bytes more : List ℕ) (d : PlainDocument) → spell.Spells bytes d
+    → sized_document_at (bytes ++ more) ≡ Ok (d, more)
+unfolding sized_document_at
+sized_again bytes more d s =
+    let small : nat_lt (2 ^ 24) (document_size d) ≡ false = le-ltb (2 ^ 24) (document_size d) (keeps d s.rules).size in
+    kept (λ y. not (nat_lt (2 ^ 24) (document_size y))) document_at (bytes ++ more) (d, more)
+    (spelled_again bytes more d s) (ap not small)
 
 pub whole_again : (bytes : List ℕ) (d : PlainDocument) → spell.Spells bytes d → document_of bytes ≡ Ok d
 unfolding whole_of

@@ -1,6 +1,6 @@
 -- Reading goes forward: no fault is before the bytes, and more bytes behind them change nothing but an early end.
 use Rattle.std.proofs.Common.{◌≡◌, ℕ, zero, suc, ◌+◌, ◌<◌, ◌≤◌, Bool, true, false, cond, nat_le, nat_lt}
-use Rattle.std.proofs.Common.{List, [], ◌∷◌, ◌++◌, length, take, drop, Ok, Err, ◌⊎◌, inl, inr, refl, sym}
+use Rattle.std.proofs.Common.{List, [], ◌∷◌, ◌++◌, length, take, drop, Ok, Err, inl, inr, refl, sym}
 use Rattle.std.proofs.Common.{ap, subst}
 use Rattle.std.proofs.Common.{◌∙◌, arith}
 use Rattle.std.specs.Int.{w128, cast_signed}
@@ -10,21 +10,23 @@ use Rattle.std.proofs.lemmas.List.{drop-append-le, length-append, length-drop, t
 use Rattle.byteorder.specs.Endian.{big_number}
 use Rattle.byteorder.specs.Numbers.{big_from-take}
 use Rattle.doc_model.specs.Uri.{is_uri}
+use Rattle.docs_format.specs.declared.fault.Fault.TheVariants.{Early, Misfit}
 use Rattle.docs_format.specs.Spelling.{is_decimal}
 use Rattle.docs_format.specs.Reading.{◌>>=◌, Read, bytes_at, collection_at, collections_at, count_at}
 use Rattle.docs_format.specs.Reading.{is_next}
-use Rattle.docs_format.specs.Reading.{keeping, last_of, list_at}
+use Rattle.docs_format.specs.Reading.{keeping, kind_at, last_of, left_of, list_at}
 use Rattle.docs_format.specs.Reading.{number_at, text_at, units_at, uri_at, wide_at}
 
 -- what is left, behind a field or from a fault on, is no more than there was
 abbrev pub Within : {X : Type 0} → ℕ → Read X → Type 0
 Within len (Ok x) = length x.1 ≤ len
-Within len (Err left) = left ≤ len
+Within len (Err fault) = left_of fault ≤ len
 
--- what was read is read with more bytes behind, and a fault before the end stays where it is
+-- what was read is read with more bytes behind, and a field that doesn't fit stays where it is
 abbrev pub Stays : {X : Type 0} → List ℕ → Read X → Read X → Type 0
 Stays more (Ok x) longer = longer ≡ Ok (x.0, x.1 ++ more)
-Stays more (Err left) longer = (left ≡ 0) ⊎ (longer ≡ Err (left + length more))
+Stays more (Err (Early left)) longer = Unit {0}
+Stays more (Err (Misfit left)) longer = longer ≡ Err (Misfit (left + length more))
 
 -- what so many bytes give, and what they give with more behind
 pub record Forward {X : Type 0} (len : ℕ) (more : List ℕ) (short longer : Read X) : Type 0 where
@@ -38,21 +40,21 @@ gives : {X : Type 0} (len : ℕ) (more : List ℕ) (short longer : Read X) (x : 
 gives len more short longer x rest s l h =
     subst (λ r. Forward len more r longer) (sym s) (record { within = h; stays = l })
 
-pub ends_early : {X : Type 0} (len : ℕ) (more : List ℕ) (short longer : Read X) → short ≡ Err 0
-    → Forward len more short longer
-ends_early len more short longer s =
-    subst (λ r. Forward len more r longer) (sym s) (record { within = omega arith; stays = inl refl })
+pub ends_early : {X : Type 0} (len left : ℕ) (more : List ℕ) (short longer : Read X) → short ≡ Err (Early left)
+    → left ≤ len → Forward len more short longer
+ends_early len left more short longer s le =
+    subst (λ r. Forward len more r longer) (sym s) (record { within = le; stays = tt })
 
-pub refuses : {X : Type 0} (bytes more : List ℕ) (short longer : Read X) → short ≡ Err (length bytes)
-    → longer ≡ Err (length (bytes ++ more)) → Forward (length bytes) more short longer
+pub refuses : {X : Type 0} (bytes more : List ℕ) (short longer : Read X) → short ≡ Err (Misfit (length bytes))
+    → longer ≡ Err (Misfit (length (bytes ++ more))) → Forward (length bytes) more short longer
 refuses bytes more short longer s l =
     subst (λ r. Forward (length bytes) more r longer) (sym s)
-    (record { within = omega arith; stays = inr (l ∙ ap Err (length-append bytes more)) })
+    (record { within = omega arith; stays = l ∙ ap (λ n. Err (Misfit n)) (length-append bytes more) })
 
 pub wider : {X : Type 0} (n m : ℕ) (more : List ℕ) (short longer : Read X) → n ≤ m
     → Forward n more short longer → Forward m more short longer
 wider n m more (Ok x) longer le f = record { within = omega (arith, f.within); stays = f.stays }
-wider n m more (Err left) longer le f = record { within = omega (arith, f.within); stays = f.stays }
+wider n m more (Err fault) longer le f = record { within = omega (arith, f.within); stays = f.stays }
 
 -- a second step, given what the first one left
 step_forward : {X Y : Type 0} (len : ℕ) (more : List ℕ) (short longer : Read X) (f g : X × List ℕ → Read Y)
@@ -61,12 +63,9 @@ step_forward : {X Y : Type 0} (len : ℕ) (more : List ℕ) (short longer : Read
     → Forward len more (short >>= f) (longer >>= g)
 step_forward len more (Ok x) longer f g a each =
     subst (λ l. Forward len more (f x) (l >>= g)) (sym a.stays) (each x.0 x.1 a.within)
-step_forward len more (Err left) longer f g a each = record { within = a.within; stays = go a.stays }
-  where
-    go : (left ≡ 0) ⊎ (longer ≡ Err (left + length more))
-        → (left ≡ 0) ⊎ ((longer >>= g) ≡ Err (left + length more))
-    go (inl z) = inl z
-    go (inr e) = inr (ap (λ l. l >>= g) e)
+step_forward len more (Err (Early left)) longer f g a each = record { within = a.within; stays = tt }
+step_forward len more (Err (Misfit left)) longer f g a each =
+    record { within = a.within; stays = ap (λ l. l >>= g) a.stays }
 
 pub chosen_forward : {X : Type 0} (b : Bool) (len : ℕ) (more : List ℕ) (s t l m : Read X)
     → Forward len more s l → Forward len more t m → Forward len more (cond b s t) (cond b l m)
@@ -88,13 +87,13 @@ then_forward more read f bytes a each =
 pub keeping_forward : {X : Type 0} (more : List ℕ) (rule : X → Bool) (field_at : List ℕ → Read X) (bytes : List ℕ)
     → IsForward more field_at bytes → IsForward more (keeping rule field_at) bytes
 keeping_forward {X = X} more rule field_at bytes a =
-    let judged : List ℕ → X × List ℕ → Read X = λ all x. cond (rule x.0) (Ok x) (Err (length all)) in
+    let judged : List ℕ → X × List ℕ → Read X = λ all x. cond (rule x.0) (Ok x) (Err (Misfit (length all))) in
     step_forward (length bytes) more (field_at bytes) (field_at (bytes ++ more)) (judged bytes)
     (judged (bytes ++ more)) a
     (λ x rest le. chosen_forward (rule x) (length bytes) more
-    (Ok (x, rest)) (Err (length bytes)) (Ok (x, rest ++ more)) (Err (length (bytes ++ more)))
+    (Ok (x, rest)) (Err (Misfit (length bytes))) (Ok (x, rest ++ more)) (Err (Misfit (length (bytes ++ more))))
     (gives (length bytes) more (Ok (x, rest)) (Ok (x, rest ++ more)) x rest refl refl le)
-    (refuses bytes more (Err (length bytes)) (Err (length (bytes ++ more))) refl refl))
+    (refuses bytes more (Err (Misfit (length bytes))) (Err (Misfit (length (bytes ++ more)))) refl refl))
 
 -- a value made of what a step read
 pub made_forward : {X Y : Type 0} (more : List ℕ) (make : X → Y) (x : X) (rest : List ℕ)
@@ -104,7 +103,7 @@ made_forward more make x rest =
 
 -- ---- fields
 
-wide_short : (width : ℕ) (bytes : List ℕ) → length bytes < width → wide_at width bytes ≡ Err 0
+wide_short : (width : ℕ) (bytes : List ℕ) → length bytes < width → wide_at width bytes ≡ Err (Early (length bytes))
 unfolding wide_at
 wide_short width bytes lt =
     let short : nat_lt (length bytes) width ≡ true = lt-ltb (length bytes) width lt in
@@ -125,11 +124,11 @@ same_number width bytes more le =
     ∙ ap (big_number width) (take-append-le width bytes more le)
     ∙ big_from-take 0 width width bytes (omega arith)
 
-wide_forward : (width : ℕ) (more bytes : List ℕ) → IsForward more (wide_at width) bytes
+pub wide_forward : (width : ℕ) (more bytes : List ℕ) → IsForward more (wide_at width) bytes
 wide_forward width more bytes =
     elim (cases_lt (length bytes) width) [
-      | inl lt ↦ ends_early (length bytes) more (wide_at width bytes) (wide_at width (bytes ++ more))
-          (wide_short width bytes lt)
+      | inl lt ↦ ends_early (length bytes) (length bytes) more (wide_at width bytes) (wide_at width (bytes ++ more))
+          (wide_short width bytes lt) (omega arith)
       | inr le ↦
           let same : big_number width (bytes ++ more) ≡ big_number width bytes = same_number width bytes more le in
           let behind : drop width (bytes ++ more) ≡ drop width bytes ++ more = drop-append-le width bytes more le in
@@ -138,6 +137,12 @@ wide_forward width more bytes =
           gives (length bytes) more (wide_at width bytes) (wide_at width (bytes ++ more)) (big_number width bytes)
           (drop width bytes) (wide_long width bytes le) longer (omega (arith, length-drop width bytes))
     ]
+
+pub first_forward : (more bytes : List ℕ) → IsForward more kind_at bytes
+unfolding kind_at
+first_forward more [] = ends_early 0 0 more (Err (Early 0)) (kind_at more) refl (omega arith)
+first_forward more (k ∷ rest) =
+    gives (suc (length rest)) more (Ok (k, rest)) (Ok (k, rest ++ more)) k rest refl refl (omega arith)
 
 pub count_forward : (more bytes : List ℕ) → IsForward more count_at bytes
 unfolding count_at
@@ -153,32 +158,35 @@ pub number_forward : (more bytes : List ℕ) → IsForward more number_at bytes
 unfolding number_at
 number_forward more bytes = keeping_forward more is_decimal units_at bytes (units_forward more bytes)
 
--- so many bytes of the rest
-cut_at : ℕ → List ℕ → Read (List ℕ)
-cut_at n rest = cond (nat_lt (length rest) n) (Err 0) (Ok (take n rest, drop n rest))
+-- so many bytes of the rest, of a field with so many bytes from its first byte on
+cut_at : ℕ → ℕ → List ℕ → Read (List ℕ)
+cut_at len n rest = cond (nat_lt (length rest) n) (Err (Early len)) (Ok (take n rest, drop n rest))
 
-cut_forward : (n : ℕ) (more rest : List ℕ) → IsForward more (cut_at n) rest
+cut_forward : (len long_len n : ℕ) (more rest : List ℕ) → length rest ≤ len
+    → Forward len more (cut_at len n rest) (cut_at long_len n (rest ++ more))
 unfolding cut_at
-cut_forward n more rest =
+cut_forward len long_len n more rest le_len =
     elim (cases_lt (length rest) n) [
       | inl lt ↦
           let short : nat_lt (length rest) n ≡ true = lt-ltb (length rest) n lt in
-          ends_early (length rest) more (cut_at n rest) (cut_at n (rest ++ more)) (rw short refl)
+          ends_early len len more (cut_at len n rest) (cut_at long_len n (rest ++ more)) (rw short refl) (omega arith)
       | inr le ↦
           let long : nat_lt (length rest) n ≡ false = le-ltb (length rest) n le in
           let longer : nat_lt (length (rest ++ more)) n ≡ false =
           le-ltb (length (rest ++ more)) n (omega (arith, le, length-append rest more)) in
           let same : take n (rest ++ more) ≡ take n rest = take-append-le n rest more le in
           let behind : drop n (rest ++ more) ≡ drop n rest ++ more = drop-append-le n rest more le in
-          gives (length rest) more (cut_at n rest) (cut_at n (rest ++ more)) (take n rest) (drop n rest)
-          (rw long refl) (rw (longer, same, behind) refl) (omega (arith, length-drop n rest))
+          gives len more (cut_at len n rest) (cut_at long_len n (rest ++ more)) (take n rest) (drop n rest)
+          (rw long refl) (rw (longer, same, behind) refl) (omega (arith, length-drop n rest, le_len))
     ]
 
 bytes_forward : (more bytes : List ℕ) → IsForward more bytes_at bytes
 unfolding bytes_at cut_at
 bytes_forward more bytes =
-    then_forward more count_at (λ len. cut_at len.0 len.1) bytes (count_forward more bytes)
-    (λ n rest. cut_forward n more rest)
+    step_forward (length bytes) more (count_at bytes) (count_at (bytes ++ more))
+    (λ len. cut_at (length bytes) len.0 len.1) (λ len. cut_at (length (bytes ++ more)) len.0 len.1)
+    (count_forward more bytes)
+    (λ n rest le. cut_forward (length bytes) (length (bytes ++ more)) n more rest le)
 
 pub text_forward : (more bytes : List ℕ) → IsForward more text_at bytes
 unfolding text_at

@@ -8,6 +8,7 @@ pub mod Lists
 pub mod Parts
 pub mod Rules
 pub mod Takes
+pub mod Found
 pub mod CollectionsAgain
 pub mod NodesAgain
 pub mod Again

@@ -30,9 +30,9 @@ pub stops : {X : Type 0} (why : Stop) (item_at : List X → List ℕ → Read X)
     → i < count → Stops why (item_at before bytes) → list_at item_at before (count - i) bytes ≡ total → Stops why total
 unfolding list_at
 stops stop.Memory item_at before count i bytes total lt h so_far = tt
-stops (stop.Left left) item_at before count i bytes total lt h so_far =
+stops (stop.Bad fault) item_at before count i bytes total lt h so_far =
     let k : count - i ≡ suc (count - (i + 1)) = omega arith in
-    let one : list_at item_at before (count - i) bytes ≡ Err left = rw (k, h) refl in
+    let one : list_at item_at before (count - i) bytes ≡ Err fault = rw (k, h) refl in
     sym so_far ∙ one
 
 pub ends : {X : Type 0} (item_at : List X → List ℕ → Read X) (before : List X) (count i : ℕ) (bytes : List ℕ)

@@ -5,6 +5,8 @@ use Rattle.std.proofs.lemmas.Bool.{eqb-true, le-leb}
 use Rattle.std.proofs.lemmas.Bool.Decides.{nat_tests}
 use Rattle.doc_model.specs.declared.node.Node.{Node}
 use Rattle.doc_model.specs.declared.node.Node.TheVariants as node
+use Rattle.docs_format.specs.declared.fault.Fault.{Fault}
+use Rattle.docs_format.specs.declared.fault.Fault.TheVariants.{Misfit}
 use Rattle.docs_format.specs.declared.fault.Stop.{Stop}
 use Rattle.docs_format.specs.declared.fault.Stop.TheVariants as stop
 use Rattle.docs_format.specs.Answers.{Stops}
@@ -31,15 +33,15 @@ pub members_are : (value_at : List ℕ → Read Node) (bytes : List ℕ) (n : �
 unfolding members_at
 members_are value_at bytes n rest e = rw e refl
 
-pub stops_then : {X Y : Type 0} (why : Stop) (first : Result X ℕ) (f : X → Result Y ℕ)
+pub stops_then : {X Y : Type 0} (why : Stop) (first : Result X Fault) (f : X → Result Y Fault)
     → Stops why first → Stops why (first >>= f)
 stops_then stop.Memory first f h = tt
-stops_then (stop.Left left) first f h = rw h refl
+stops_then (stop.Bad fault) first f h = rw h refl
 
-pub stops_same : {X : Type 0} (why : Stop) (first second : Result X ℕ) → second ≡ first → Stops why first
+pub stops_same : {X : Type 0} (why : Stop) (first second : Result X Fault) → second ≡ first → Stops why first
     → Stops why second
 stops_same stop.Memory first second e h = tt
-stops_same (stop.Left left) first second e h = e ∙ h
+stops_same (stop.Bad fault) first second e h = e ∙ h
 
 pub last_of-push : (names : List (List ℕ)) (name : List ℕ) → last_of (names ++ name ∷ []) ≡ name
 last_of-push [] name = refl
@@ -54,8 +56,8 @@ differs a b h = grind (arith, nat_tests)
 pub kind_stops : (why : Stop) (depth : ℕ) (bytes : List ℕ) → Stops why (kind_at bytes) → Stops why (node_at depth bytes)
 unfolding node_at node_of
 kind_stops stop.Memory depth bytes h = tt
-kind_stops (stop.Left left) zero bytes h = rw h refl
-kind_stops (stop.Left left) (suc depth) bytes h = rw h refl
+kind_stops (stop.Bad fault) zero bytes h = rw h refl
+kind_stops (stop.Bad fault) (suc depth) bytes h = rw h refl
 
 module _ (bytes : List ℕ) (k : ℕ) (rest : List ℕ) (e : kind_at bytes ≡ Ok (k, rest)) where
   pub kind_null : (depth : ℕ) → k ≡ 0 → node_at depth bytes ≡ Ok (node.Null, rest)
@@ -96,16 +98,16 @@ module _ (bytes : List ℕ) (k : ℕ) (rest : List ℕ) (e : kind_at bytes ≡ O
   kind_members zero inner is deep = absurd (omega arith)
   kind_members (suc depth) inner is deep = let same : depth ≡ inner = omega arith in rw (e, is, same) refl
 
-  pub kind_deep : (depth : ℕ) → (k ≡ 5) ⊎ (k ≡ 6) → depth ≡ 0 → node_at depth bytes ≡ Err (length bytes)
+  pub kind_deep : (depth : ℕ) → (k ≡ 5) ⊎ (k ≡ 6) → depth ≡ 0 → node_at depth bytes ≡ Err (Misfit (length bytes))
   unfolding node_at node_of
   kind_deep depth (inl is) none = rw (none, e, is) refl
   kind_deep depth (inr is) none = rw (none, e, is) refl
 
   pub stops_deep : (why : Stop) (left depth : ℕ) → (k ≡ 5) ⊎ (k ≡ 6) → left ≡ length bytes
-      → (depth ≡ 0) × (why ≡ stop.Left left) → Stops why (node_at depth bytes)
+      → (depth ≡ 0) × (why ≡ stop.Bad (Misfit left)) → Stops why (node_at depth bytes)
   stops_deep why left depth kind all d = rw (d.1, all) (kind_deep depth kind d.0)
 
-  pub kind_other : (depth : ℕ) → 7 ≤ k → node_at depth bytes ≡ Err (length bytes)
+  pub kind_other : (depth : ℕ) → 7 ≤ k → node_at depth bytes ≡ Err (Misfit (length bytes))
   unfolding node_at node_of
   kind_other depth high =
       let f0 : (k == 0) ≡ false = differs k 0 (omega arith) in
@@ -115,7 +117,7 @@ module _ (bytes : List ℕ) (k : ℕ) (rest : List ℕ) (e : kind_at bytes ≡ O
       let f4 : (k == 4) ≡ false = differs k 4 (omega arith) in
       let f5 : (k == 5) ≡ false = differs k 5 (omega arith) in
       let f6 : (k == 6) ≡ false = differs k 6 (omega arith) in
-      elim depth as (λ d. node_at d bytes ≡ Err (length bytes)) [
+      elim depth as (λ d. node_at d bytes ≡ Err (Misfit (length bytes))) [
         | zero ↦ rw (e, f0, f1, f2, f3, f4, f5, f6) refl
         | suc d ↦ rw (e, f0, f1, f2, f3, f4, f5, f6) refl
       ]

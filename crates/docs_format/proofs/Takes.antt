@@ -1,29 +1,26 @@
 -- What is read is spelled so.
-use Rattle.std.proofs.Common.{◌≡◌, ℕ, ℤ, zero, suc, ◌^◌, Bool, true, false, cond, ◌&&◌, not, eqb, nat_lt, List, []}
+use Rattle.std.proofs.Common.{◌≡◌, ℕ, ℤ, zero, suc, Bool, true, false, ◌&&◌, List, []}
 use Rattle.std.proofs.Common.{◌∷◌, ◌++◌}
-use Rattle.std.proofs.Common.{length, Result, Ok, Err, is_none, refl, sym, ap, subst, ◌∙◌, rules, nat_le}
-use Rattle.std.specs.Prelude.{IfOk, IsTrue}
+use Rattle.std.proofs.Common.{length, Ok, Err, refl, sym, ap, subst, ◌∙◌, nat_le}
 use Rattle.std.specs.List.{flat_map, list_all}
 use Rattle.std.specs.Str.{is_utf8}
-use Rattle.std.proofs.lemmas.Bool.{and_from, eqb-true, not-false}
-use Rattle.std.proofs.lemmas.List.{append-nil, nil_from_length}
-use Rattle.doc_model.specs.Documents.{PlainDocument, broken_rule, document_size}
+use Rattle.std.proofs.lemmas.Bool.{and_from}
+use Rattle.doc_model.specs.Documents.{PlainDocument}
 use Rattle.doc_model.specs.declared.node.Node.{Node}
 use Rattle.doc_model.specs.declared.node.Node.TheVariants as node
-use Rattle.docs_format.specs.declared.fault.DocBytesBad.{DocBytesBad}
-use Rattle.docs_format.specs.Answers.{Answers}
+use Rattle.docs_format.specs.declared.fault.Fault.{Fault}
+use Rattle.docs_format.specs.declared.fault.Fault.TheVariants.{Misfit}
 use Rattle.docs_format.specs.Spelling as spell
 use Rattle.docs_format.specs.Reading.{◌>>=◌, Read, collection_at, collections_at, count_at, document_at}
-use Rattle.docs_format.specs.Reading.{document_of, is_next}
+use Rattle.docs_format.specs.Reading.{is_next}
 use Rattle.docs_format.specs.Reading.{items_at, keeping, last_of, list_at, member_at, members_at, name_at, names}
 use Rattle.docs_format.specs.Reading.{node_at}
-use Rattle.docs_format.specs.Reading.{kind_at, node_of, number_at, placed, text_at, uri_at, whole_of}
+use Rattle.docs_format.specs.Reading.{kind_at, node_of, number_at, text_at, uri_at}
 use Rattle.docs_format.proofs.Digits.{IsBytes}
-use Rattle.docs_format.proofs.Fields.{bind_ok, guard_ok, kept_ok, ok_is, Takes, Takes-then, count_takes, number_takes}
+use Rattle.docs_format.proofs.Fields.{bind_ok, kept_ok, ok_is, Takes, Takes-then, count_takes, number_takes}
 use Rattle.docs_format.proofs.Fields.{text_takes, uri_takes}
 use Rattle.docs_format.proofs.Lists.{list_takes}
 use Rattle.docs_format.proofs.Parts.{by_kind}
-use Rattle.docs_format.proofs.Rules.{document_kept, only_size}
 use Rattle.docs_format.proofs.Trees.{spell_null, spell_bool, spell_number, spell_text, spell_items, spell_members}
 use Rattle.docs_format.proofs.Trees.{values_null, values_bool, values_number, values_text, values_items, values_members}
 
@@ -155,9 +152,9 @@ module _ (array_at object_at : List ℕ → Read Node) (k : ℕ) (rest : List �
       (read_plain 2 (node.Bool true) (spell_bool true) (values_bool true))
       read_number read_text array_takes object_takes x e
 
-refused : (rest : List ℕ) (kind left : ℕ) (x : Node × List ℕ)
-    → (let r : Read Node = Err left in r) ≡ Ok x → IsRead rest kind x
-refused rest kind left x e = absurd cc
+refused : (rest : List ℕ) (kind : ℕ) (fault : Fault) (x : Node × List ℕ)
+    → (let r : Read Node = Err fault in r) ≡ Ok x → IsRead rest kind x
+refused rest kind fault x e = absurd cc
 
 IsBytes-rest : (b : ℕ) (bytes : List ℕ) → IsBytes (b ∷ bytes) → IsBytes bytes
 IsBytes-rest b bytes h i = h (suc i)
@@ -168,8 +165,8 @@ unfolding node_at node_of kind_at
 node_takes zero [] x fits e = absurd cc
 node_takes (suc depth) [] x fits e = absurd cc
 node_takes zero (k ∷ rest) x fits e =
-    let out : List ℕ → Read Node = λ r. Err (length (k ∷ rest)) in
-    let left : ℕ = length (k ∷ rest) in
+    let out : List ℕ → Read Node = λ r. Err (Misfit (length (k ∷ rest))) in
+    let left : Fault = Misfit (length (k ∷ rest)) in
     node_of_takes out out k rest (IsBytes-rest k rest fits) (refused rest 5 left) (refused rest 6 left) x e
 node_takes (suc depth) (k ∷ rest) x fits e =
     let tail = IsBytes-rest k rest fits in
@@ -207,7 +204,7 @@ joined bytes uri collections root u l n =
       and_from (is_utf8 uri.0 && list_all is_utf8 collections.0) (spell.has_values root.0) utf8 n.1,
     )
 
-document_takes : (bytes : List ℕ) (x : PlainDocument × List ℕ) → IsBytes bytes
+pub document_takes : (bytes : List ℕ) (x : PlainDocument × List ℕ) → IsBytes bytes
     → document_at bytes ≡ Ok x → IsDocumentRead bytes x
 unfolding document_at
 document_takes bytes x fits e =
@@ -222,44 +219,3 @@ document_takes bytes x fits e =
     let all : PlainDocument × List ℕ = made a.0 b.0 c.0 in
     subst (λ (y : PlainDocument × List ℕ). IsDocumentRead bytes y) {x = all} (ok_is all x c.2)
     (joined bytes a.0 b.0 c.0 (u.0, u.1) l n)
-
-is_true : (b : Bool) → b ≡ true → IsTrue b
-is_true true e = search rules
-is_true false e = absurd cc
-
-pub whole_takes : (bytes : List ℕ) (d : PlainDocument) → IsBytes bytes → whole_of bytes ≡ Ok d → spell.Spells bytes d
-unfolding whole_of
-whole_takes bytes d fits e =
-    let sized : PlainDocument → Result PlainDocument ℕ =
-    λ y. cond (nat_lt (2 ^ 24) (document_size y)) (Err (length bytes)) (Ok y) in
-    let alone : PlainDocument × List ℕ → Result PlainDocument ℕ =
-    λ y. cond (not (eqb (length y.1) 0)) (Err (length y.1)) (sized y.0) in
-    let a = bind_ok (document_at bytes) alone d e in
-    let b = first_ok (not (eqb (length a.0.1) 0)) (length a.0.1) (sized a.0.0) d a.2 in
-    let c = guard_ok (nat_lt (2 ^ 24) (document_size a.0.0)) (length bytes) a.0.0 d b.1 in
-    let t = document_takes bytes a.0 fits a.1 in
-    let k = document_kept bytes a.0 a.1 in
-    let whole : is_none (broken_rule a.0.0) ≡ true = rw (only_size a.0.0 k, c.0) refl in
-    let nothing : a.0.1 ≡ [] =
-    nil_from_length a.0.1 (eqb-true (length a.0.1) 0 (not-false (eqb (length a.0.1) 0) b.0)) in
-    let spelled : bytes ≡ spell.document a.0.0 =
-    t.0.parts ∙ ap (λ (rest : List ℕ). spell.document a.0.0 ++ rest) nothing ∙ append-nil (spell.document a.0.0) in
-    subst (λ (y : PlainDocument). spell.Spells bytes y) c.1 record {
-      rules = is_true (is_none (broken_rule a.0.0)) whole;
-      values = is_true (spell.are_values a.0.0) t.1;
-      spelled = spelled;
-    }
-  where
-    first_ok : (b : Bool) (left : ℕ) (r : Result PlainDocument ℕ) (d : PlainDocument)
-        → cond b (Err left) r ≡ Ok d → (b ≡ false) × (r ≡ Ok d)
-    first_ok true left r d e = absurd cc
-    first_ok false left r d e = (refl, e)
-
-unplaced : (len : ℕ) (r : Result PlainDocument ℕ) (d : PlainDocument) → placed len r ≡ Ok d → r ≡ Ok d
-unplaced len (Ok x) d e = e
-unplaced len (Err left) d e = absurd cc
-
-pub is_found : (bytes : List ℕ) (r : Result PlainDocument DocBytesBad) → IsBytes bytes
-    → Answers r (document_of bytes) → IfOk r (λ d. spell.Spells bytes d)
-is_found bytes (Ok d) fits given = whole_takes bytes d fits (unplaced (length bytes) (whole_of bytes) d given)
-is_found bytes (Err why) fits given = tt

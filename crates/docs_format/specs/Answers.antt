@@ -9,16 +9,17 @@ use Rattle.doc_model.specs.Documents.{PlainDocument}
 use Rattle.doc_model.specs.Tree.{is_among}
 use Rattle.docs_format.specs.declared.fault.DocBytesBad.{DocBytesBad}
 use Rattle.docs_format.specs.declared.fault.DocBytesBad.TheVariants as bad
+use Rattle.docs_format.specs.declared.fault.Fault.{Fault}
 use Rattle.docs_format.specs.declared.fault.Stop.{Stop}
 use Rattle.docs_format.specs.declared.fault.Stop.TheVariants as stop
 
 -- a stop at the fault that reading meets, or for want of memory
-abbrev pub Stops : {Y : Type 0} → Stop → Result Y ℕ → Type 0
+abbrev pub Stops : {Y : Type 0} → Stop → Result Y Fault → Type 0
 Stops stop.Memory read = Unit {0}
-Stops (stop.Left left) read = read ≡ Err left
+Stops (stop.Bad fault) read = read ≡ Err fault
 
 -- what reading gives, seen so, unless memory ran out
-abbrev pub Gives : {X Y : Type 0} → (X → Y) → Result X Stop → Result Y ℕ → Type 0
+abbrev pub Gives : {X Y : Type 0} → (X → Y) → Result X Stop → Result Y Fault → Type 0
 Gives view (Ok x) read = read ≡ Ok (view x)
 Gives view (Err why) read = Stops why read
 

@@ -11,26 +11,35 @@ use Rattle.doc_model.specs.Tree.{is_among}
 use Rattle.doc_model.specs.Uri.{is_name, is_uri}
 use Rattle.doc_model.specs.declared.node.Node.{Node}
 use Rattle.doc_model.specs.declared.node.Node.TheVariants as node
+use Rattle.docs_format.specs.declared.fault.Fault.{Fault}
+use Rattle.docs_format.specs.declared.fault.Fault.TheVariants.{Early, Misfit}
 use Rattle.docs_format.specs.Spelling.{is_decimal}
 
--- the field at the front of some bytes and the bytes behind it, or how many bytes are left from the fault on
+-- how many bytes are left from the first byte on of the field that the bytes cut, or that doesn't fit
+abbrev pub left_of : Fault → ℕ
+left_of (Early left) = left
+left_of (Misfit left) = left
+
+-- the field at the front of some bytes and the bytes behind it, or its fault
 abbrev pub Read : Type 0 → Type 0
-Read X = Result (X × List ℕ) ℕ
+Read X = Result (X × List ℕ) Fault
 
 infixl 10 ◌>>=◌
-abbrev pub ◌>>=◌ : {X Y : Type 0} → Result X ℕ → (X → Result Y ℕ) → Result Y ℕ
+abbrev pub ◌>>=◌ : {X Y : Type 0} → Result X Fault → (X → Result Y Fault) → Result Y Fault
 (Ok x) >>= f = f x
-(Err left) >>= f = Err left
+(Err fault) >>= f = Err fault
 
 -- a field that keeps a rule; if it doesn't, the fault is at its first byte
 abbrev pub keeping : {X : Type 0} → (X → Bool) → (List ℕ → Read X) → List ℕ → Read X
 keeping rule field_at bytes = do
   field ← field_at bytes
-  if rule field.0 then Ok field else Err (length bytes)
+  if rule field.0 then Ok field else Err (Misfit (length bytes))
 
 -- a number in so many bytes, the highest first
 unfoldable pub wide_at : ℕ → List ℕ → Read ℕ
-wide_at width bytes = if nat_lt (length bytes) width then Err 0 else Ok (big_number width bytes, drop width bytes)
+wide_at width bytes =
+    if nat_lt (length bytes) width then Err (Early (length bytes))
+    else Ok (big_number width bytes, drop width bytes)
 
 unfoldable pub count_at : List ℕ → Read ℕ
 count_at = wide_at 4
@@ -44,11 +53,11 @@ units_at bytes = do
 unfoldable pub number_at : List ℕ → Read ℤ
 number_at = keeping is_decimal units_at
 
--- a length, and as many bytes
+-- a length, and as many bytes; where they end early, the field that they cut begins at its length
 unfoldable pub bytes_at : List ℕ → Read (List ℕ)
 bytes_at bytes = do
   len ← count_at bytes
-  if nat_lt (length len.1) len.0 then Err 0 else Ok (take len.0 len.1, drop len.0 len.1)
+  if nat_lt (length len.1) len.0 then Err (Early (length bytes)) else Ok (take len.0 len.1, drop len.0 len.1)
 
 unfoldable pub text_at : List ℕ → Read (List ℕ)
 text_at = keeping is_utf8 bytes_at
@@ -111,7 +120,7 @@ members_at value_at bytes = do
   Ok (node.Members members.0, members.1)
 
 unfoldable pub kind_at : List ℕ → Read ℕ
-kind_at [] = Err 0
+kind_at [] = Err (Early 0)
 kind_at (kind ∷ rest) = Ok (kind, rest)
 
 -- a node, given how the rest of an array and of an object is read
@@ -125,11 +134,11 @@ node_of array_at object_at bytes = do
       else if kind.0 == 4 then (text_at kind.1 >>= λ text. Ok (node.Text text.0, text.1))
       else if kind.0 == 5 then array_at kind.1
       else if kind.0 == 6 then object_at kind.1
-      else Err (length bytes)
+      else Err (Misfit (length bytes))
 
 -- a node in which at most so many arrays and objects enclose each other; one too many doesn't fit at its kind
 unfoldable pub node_at : ℕ → List ℕ → Read Node
-node_at zero bytes = node_of (λ rest. Err (length bytes)) (λ rest. Err (length bytes)) bytes
+node_at zero bytes = node_of (λ rest. Err (Misfit (length bytes))) (λ rest. Err (Misfit (length bytes))) bytes
 node_at (suc depth) bytes = node_of (items_at (node_at depth)) (members_at (node_at depth)) bytes
 
 unfoldable pub document_at : List ℕ → Read PlainDocument
@@ -139,18 +148,27 @@ document_at bytes = do
   root ← node_at 128 collections.1
   Ok (record { uri = uri.0; collections = collections.0; root = root.0 }, root.1)
 
+-- a document that keeps the rule on size too: one that is too large in all doesn't fit at its first byte
+unfoldable pub sized_document_at : List ℕ → Read PlainDocument
+sized_document_at = keeping (λ d. not (nat_lt (2 ^ 24) (document_size d))) document_at
+
 -- a document with no byte behind it; one that is too large in all doesn't fit at its first byte
-unfoldable pub whole_of : List ℕ → Result PlainDocument ℕ
+unfoldable pub whole_of : List ℕ → Result PlainDocument Fault
 whole_of bytes = do
   d ← document_at bytes
-  if not (length d.1 == 0) then Err (length d.1)
-      else if nat_lt (2 ^ 24) (document_size d.0) then Err (length bytes)
+  if not (length d.1 == 0) then Err (Misfit (length d.1))
+      else if nat_lt (2 ^ 24) (document_size d.0) then Err (Misfit (length bytes))
       else Ok d.0
 
--- the place of a fault in bytes of this length
-abbrev pub placed : ℕ → Result PlainDocument ℕ → Result PlainDocument ℕ
+-- the place of a fault in bytes of this length, which is the length where they end early
+abbrev pub place_of : ℕ → Fault → ℕ
+place_of len (Early left) = len
+place_of len (Misfit left) = len - left
+
+-- the document, or the place of its fault in bytes of this length
+abbrev pub placed : ℕ → Result PlainDocument Fault → Result PlainDocument ℕ
 placed len (Ok d) = Ok d
-placed len (Err left) = Err (len - left)
+placed len (Err fault) = Err (place_of len fault)
 
 -- the document that bytes spell, or the place of the first field that doesn't fit
 abbrev pub document_of : List ℕ → Result PlainDocument ℕ

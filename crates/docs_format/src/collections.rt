@@ -2,7 +2,7 @@ ghost use Rattle.std.specs.Prelude.{◌≡◌};
 ghost use Rattle.docs_format.specs.Answers.{Gives};
 ghost use Rattle.docs_format.specs.Reading.{collection_at, collections_at, is_next};
 
-use crate::fault::Stop;
+use crate::fault::{Fault, Stop};
 use crate::reader::Reader;
 use doc_model::{Text, Texts};
 use std::alloc::Global;
@@ -17,7 +17,7 @@ pub fn collections_at(alloc: Global, reader: &mut Reader) -> Result<Texts, Stop>
     let left = reader.left();
     let count = reader.count()?;
     if count > MOST_COLLECTIONS {
-        return Err(Stop::Left(left));
+        return Err(Stop::Bad(Fault::Misfit(left)));
     }
     let mut collections = Texts::new(alloc);
     let mut last = "";
@@ -37,7 +37,7 @@ fn collection_at<'a>(last: &str, reader: &mut Reader<'a>) -> Result<&'a str, Sto
     if is_next(last, name) {
         Ok(name)
     } else {
-        Err(Stop::Left(left))
+        Err(Stop::Bad(Fault::Misfit(left)))
     }
 }
 

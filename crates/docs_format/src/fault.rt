@@ -2,6 +2,7 @@
 
 ghost use Rattle.std.specs.Prelude.{◌≡◌};
 ghost use Rattle.docs_format.specs.declared.fault.Stop.TheVariants.{Memory};
+ghost use Rattle.docs_format.specs.Reading.{left_of};
 
 use std::alloc::{AllocError, AllocFailed};
 
@@ -14,11 +15,32 @@ pub enum DocBytesBad {
     Memory,
 }
 
-/// Why reading stopped: want of memory, or a fault with so many bytes left from it on.
+/// The field at which reading stopped, by how many bytes are left from its first byte on.
+#[derive(Clone, Copy, Debug, PartialEq, Eq)]
+pub enum Fault {
+    /// The bytes end inside the field, or before it.
+    Early(usize),
+    /// The field is there, and doesn't fit.
+    Misfit(usize),
+}
+
+impl Fault {
+    /// How many bytes are left from the field's first byte on.
+    pub fn left(self) -> usize
+        ensures { result ≡ left_of self }
+    {
+        match self {
+            Fault::Early(left) => left,
+            Fault::Misfit(left) => left,
+        }
+    }
+}
+
+/// Why reading stopped.
 #[derive(Clone, Copy, Debug, PartialEq, Eq)]
 pub enum Stop {
     Memory,
-    Left(usize),
+    Bad(Fault),
 }
 
 impl From<AllocError> for Stop {

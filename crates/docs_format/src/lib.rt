@@ -10,10 +10,14 @@ mod reader;
 mod reading;
 mod writing;
 
-pub use fault::DocBytesBad;
-pub use laws::{beginnings_end_early, faults_stay, more_is_too_many};
-pub use reading::decode;
-pub use writing::encode;
+pub use fault::{DocBytesBad, Fault, Stop};
+pub use laws::{
+    beginnings_end_early, documents_are_read_again, faults_stay, more_is_too_many,
+    what_is_read_is_spelled,
+};
+pub use reader::Reader;
+pub use reading::{decode, document};
+pub use writing::{encode, put_count, put_document, put_kind, put_long, put_text};
 
 #[cfg(test)]
 mod tests;

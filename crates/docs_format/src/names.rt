@@ -3,7 +3,7 @@ ghost use Rattle.doc_model.specs.Tree.{is_among};
 ghost use Rattle.docs_format.specs.Answers.{Gives, HasNames};
 ghost use Rattle.docs_format.specs.Reading.{name_at};
 
-use crate::fault::Stop;
+use crate::fault::{Fault, Stop};
 use crate::reader::Reader;
 use std::alloc::AllocError;
 use std::collections::BTreeMap;
@@ -24,7 +24,7 @@ pub fn name_at<'a>(
     if is_fresh(seen, name)? {
         Ok(name)
     } else {
-        Err(Stop::Left(left))
+        Err(Stop::Bad(Fault::Misfit(left)))
     }
 }
 

@@ -1,9 +1,10 @@
 ghost use Rattle.std.specs.Prelude.{◌≡◌, ◌+◌, ◌∷◌, [], ◌++◌, List, ℕ, IfErr, IfOk};
 ghost use Rattle.docs_format.specs.Answers.{Gives, HasNames};
-ghost use Rattle.docs_format.specs.declared.fault.Stop.TheVariants.{Left};
+ghost use Rattle.docs_format.specs.declared.fault.Fault.TheVariants.{Misfit};
+ghost use Rattle.docs_format.specs.declared.fault.Stop.TheVariants.{Bad};
 ghost use Rattle.docs_format.specs.Reading.{items_at, member_at, members_at, names, node_at};
 
-use crate::fault::Stop;
+use crate::fault::{Fault, Stop};
 use crate::names::name_at;
 use crate::reader::Reader;
 use doc_model::{Members, Node, Nodes, Text};
@@ -25,16 +26,16 @@ pub fn node_at(alloc: Global, depth: u32, reader: &mut Reader) -> Result<Node, S
         4 => Ok(Node::Text(Text::from_str(alloc, reader.text()?)?)),
         5 => items_at(alloc, inside(depth, left)?, reader),
         6 => members_at(alloc, inside(depth, left)?, reader),
-        7.. => Err(Stop::Left(left)),
+        7.. => Err(Stop::Bad(Fault::Misfit(left))),
     }
 }
 
 /// How many arrays and objects may enclose each other inside of one, where so many may with it.
 fn inside(depth: u32, left: usize) -> Result<u32, Stop>
-    ensures deep { IfErr result (λ why. (depth ≡ 0) × (why ≡ Left left)) }
+    ensures deep { IfErr result (λ why. (depth ≡ 0) × (why ≡ Bad (Misfit left))) }
     ensures inner { IfOk result (λ inner. inner + 1 ≡ depth) }
 {
-    depth.checked_sub(1).ok_or(Stop::Left(left))
+    depth.checked_sub(1).ok_or(Stop::Bad(Fault::Misfit(left)))
 }
 
 #[cycle(reading)]

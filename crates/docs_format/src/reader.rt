@@ -1,12 +1,15 @@
 ghost use Rattle.docs_format.specs.Answers.{Gives};
 ghost use Rattle.docs_format.specs.Reading.{bytes_at, count_at, kind_at, number_at, text_at, units_at, uri_at};
+ghost use Rattle.docs_format.specs.Reading.{wide_at};
 
-use crate::fault::Stop;
+use crate::fault::{Fault, Stop};
 use byteorder::{BigEndian, ByteOrder};
 use doc_model::{Dec, is_uri};
 use std::marker::Model;
 
 /// Bytes that are read field by field from their front. Contracts see the bytes that are left.
+///
+/// After a fault some of them are read, and how many nobody promises.
 #[derive(Drop)]
 pub struct Reader<'a> {
     rest: &'a [u8],
@@ -36,13 +39,13 @@ impl<'a> Reader<'a> {
         self.rest.len()
     }
 
-    /// The kind of a node, in one byte.
+    /// A kind, in one byte.
     #[tactic(auto, unfolding(crate::specs::Reading::kind_at))]
     pub fn kind(&mut self) -> Result<u8, Stop>
         ensures { Gives (λ x. (x, self.new)) result (kind_at self.old) }
     {
         let Some((kind, rest)) = self.rest.split_first() else {
-            return Err(Stop::Left(0));
+            return Err(Stop::Bad(Fault::Early(0)));
         };
         self.rest = rest;
         Ok(*kind)
@@ -54,11 +57,24 @@ impl<'a> Reader<'a> {
         ensures { Gives (λ x. (x, self.new)) result (count_at self.old) }
     {
         if self.rest.len() < 4 {
-            return Err(Stop::Left(0));
+            return Err(Stop::Bad(Fault::Early(self.rest.len())));
         }
         let count = BigEndian::read_u32(self.rest);
         self.rest = &self.rest[4..];
         Ok(count)
+    }
+
+    /// A number of eight bytes, the highest first.
+    #[tactic(auto, unfolding(crate::specs::Reading::wide_at))]
+    pub fn long(&mut self) -> Result<u64, Stop>
+        ensures { Gives (λ x. (x, self.new)) result (wide_at 8 self.old) }
+    {
+        if self.rest.len() < 8 {
+            return Err(Stop::Bad(Fault::Early(self.rest.len())));
+        }
+        let number = BigEndian::read_u64(self.rest);
+        self.rest = &self.rest[8..];
+        Ok(number)
     }
 
     /// Two's complement, in sixteen bytes.
@@ -67,7 +83,7 @@ impl<'a> Reader<'a> {
         ensures { Gives (λ x. (x, self.new)) result (units_at self.old) }
     {
         if self.rest.len() < 16 {
-            return Err(Stop::Left(0));
+            return Err(Stop::Bad(Fault::Early(self.rest.len())));
         }
         let units = BigEndian::read_i128(self.rest);
         self.rest = &self.rest[16..];
@@ -81,7 +97,7 @@ impl<'a> Reader<'a> {
         let left = self.left();
         match Dec::of_units(self.units()?) {
             Some(number) => Ok(number),
-            None => Err(Stop::Left(left)),
+            None => Err(Stop::Bad(Fault::Misfit(left))),
         }
     }
 
@@ -90,9 +106,10 @@ impl<'a> Reader<'a> {
     fn bytes(&mut self) -> Result<&'a [u8], Stop>
         ensures { Gives (λ x. (x.now, self.new)) result (bytes_at self.old) }
     {
+        let left = self.left();
         let len = self.count()? as usize;
         if self.rest.len() < len {
-            return Err(Stop::Left(0));
+            return Err(Stop::Bad(Fault::Early(left)));
         }
         let (bytes, rest) = self.rest.split_at(len);
         self.rest = rest;
@@ -107,7 +124,7 @@ impl<'a> Reader<'a> {
         let left = self.left();
         match str::from_utf8(self.bytes()?) {
             Ok(text) => Ok(text),
-            Err(_) => Err(Stop::Left(left)),
+            Err(_) => Err(Stop::Bad(Fault::Misfit(left))),
         }
     }
 
@@ -120,7 +137,7 @@ impl<'a> Reader<'a> {
         if is_uri(uri) {
             Ok(uri)
         } else {
-            Err(Stop::Left(left))
+            Err(Stop::Bad(Fault::Misfit(left)))
         }
     }
 }

@@ -115,3 +115,42 @@ fn at_most_128_arrays_enclose_each_other(rt: HostRuntime) -> Result<(), Fail> {
     assert_eq!(rt; place_of(alloc, &nested(alloc, 129)?), Some(650));
     Ok(())
 }
+
+#[test]
+fn a_document_stands_in_a_longer_body(rt: HostRuntime) -> Result<(), Fail> {
+    let alloc = rt.alloc();
+    let one = decode(alloc, ONE)
+        .ok()
+        .ok_or("the bytes are those of a document")?;
+    let mut body = Vec::new(alloc);
+    put_kind(&mut body, 7)?;
+    put_document(&mut body, &one)?;
+    put_long(&mut body, 0x0102_0304_0506_0708)?;
+    put_count(&mut body, 9)?;
+    put_text(&mut body, one.uri())?;
+    assert_eq!(rt; body.len(), 46);
+    let mut reader = Reader::new(&body);
+    assert_eq!(rt; reader.kind(), Ok(7));
+    let again = document(alloc, &mut reader)
+        .ok()
+        .ok_or("a document is in front")?;
+    assert_eq!(rt; again.uri().as_str(), "/a");
+    assert_eq!(rt; reader.left(), 18);
+    assert_eq!(rt; reader.long(), Ok(0x0102_0304_0506_0708));
+    assert_eq!(rt; reader.count(), Ok(9));
+    assert_eq!(rt; reader.text(), Ok("/a"));
+    assert_eq!(rt; reader.left(), 0);
+    Ok(())
+}
+
+/// Each row is how many bytes of the rich document are there, and how many are left from the field on that they cut.
+#[test]
+fn a_field_that_is_cut_is_named_by_its_first_byte(rt: HostRuntime) {
+    let rows: [(usize, usize); 7] = [(0, 0), (3, 3), (5, 5), (9, 3), (14, 4), (41, 0), (47, 4)];
+    for (len, left) in rows {
+        assert!(rt; len <= RICH.len());
+        let mut reader = Reader::new(&RICH[..len]);
+        let why = document(rt.alloc(), &mut reader).err();
+        assert_eq!(rt; why, Some(Stop::Bad(Fault::Early(left))), "of {len} bytes");
+    }
+}

@@ -3,7 +3,8 @@ ghost use Rattle.std.specs.List.{list_all, flat_map};
 ghost use Rattle.std.specs.Str.{is_utf8};
 ghost use Rattle.doc_model.specs.Tree.{size};
 ghost use Rattle.docs_format.specs.Spelling.{Spells, count, has_values, is_decimal, items, members, node, number, text};
-ghost use Rattle.docs_format.specs.Spelling.{texts};
+ghost use Rattle.docs_format.specs.Spelling.{document, texts};
+ghost use Rattle.byteorder.specs.Endian.{big_bytes};
 
 use byteorder::{BigEndian, ByteOrder};
 use doc_model::{Dec, Document, Members, Node, Nodes, Text};
@@ -13,28 +14,47 @@ use std::alloc::{AllocError, Global};
 pub fn encode(alloc: Global, document: &Document) -> Result<Vec<u8>, AllocError>
     ensures { IfOk result (λ bytes. Spells bytes.items document.now) }
 {
-    let root = document.root();
     let mut out = Vec::new(alloc);
-    put_text(&mut out, document.uri())?;
-    put_texts(&mut out, document.collections().as_slice())?;
-    put_node(&mut out, root)?;
+    put_document(&mut out, document)?;
     Ok(out)
 }
 
-fn put_kind(out: &mut Vec<u8>, kind: u8) -> Result<(), AllocError>
+/// Appends the one spelling of a document.
+pub fn put_document(out: &mut Vec<u8>, value: &Document) -> Result<(), AllocError>
+    ensures written { OnOk result (out.new.items ≡ out.old.items ++ document value.now) }
+    ensures spells { OnOk result (Spells (document value.now) value.now) }
+{
+    let root = value.root();
+    put_text(out, value.uri())?;
+    put_texts(out, value.collections().as_slice())?;
+    put_node(out, root)
+}
+
+/// Appends a number of one byte.
+pub fn put_kind(out: &mut Vec<u8>, kind: u8) -> Result<(), AllocError>
     ensures { OnOk result (out.new.items ≡ out.old.items ++ kind ∷ []) }
 {
     out.push(kind)?;
     Ok(())
 }
 
+/// Appends a count or a length, in four bytes.
 #[tactic(auto, unfolding(crate::specs::Spelling::count))]
-fn put_count(out: &mut Vec<u8>, n: usize) -> Result<(), AllocError>
+pub fn put_count(out: &mut Vec<u8>, n: usize) -> Result<(), AllocError>
     requires { n < 2 ^ 32 }
     ensures { OnOk result (out.new.items ≡ out.old.items ++ count n) }
 {
     let mut bytes = [0; 4];
     BigEndian::write_u32(&mut bytes, n as u32);
+    out.extend_from_slice(&bytes)
+}
+
+/// Appends a number in eight bytes, the highest first.
+pub fn put_long(out: &mut Vec<u8>, n: u64) -> Result<(), AllocError>
+    ensures { OnOk result (out.new.items ≡ out.old.items ++ big_bytes 8 n) }
+{
+    let mut bytes = [0; 8];
+    BigEndian::write_u64(&mut bytes, n);
     out.extend_from_slice(&bytes)
 }
 
@@ -48,7 +68,8 @@ fn put_number(out: &mut Vec<u8>, value: &Dec) -> Result<(), AllocError>
     out.extend_from_slice(&bytes)
 }
 
-fn put_text(out: &mut Vec<u8>, value: &Text) -> Result<(), AllocError>
+/// Appends a text behind its length.
+pub fn put_text(out: &mut Vec<u8>, value: &Text) -> Result<(), AllocError>
     requires { length value.now < 2 ^ 32 }
     ensures written { OnOk result (out.new.items ≡ out.old.items ++ text value.now) }
     ensures utf8 { IsTrue (is_utf8 value.now) }

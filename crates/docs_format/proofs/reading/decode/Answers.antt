@@ -1,7 +1,7 @@
 use Rattle.std.proofs.Common.{arith}
 use Rattle.docs_format.proofs.Again.{is_only}
 use Rattle.docs_format.proofs.Places.{is_placed}
-use Rattle.docs_format.proofs.Takes.{is_found}
+use Rattle.docs_format.proofs.Found.{is_found}
 use Rattle.docs_format.proofs.reading.decode.Goals as goal
 
 pub returns-clause-found : goal.returns-clause-found
