@@ -22,7 +22,7 @@ unfolding ExponentEnds
 exponent_ends [] bytes e = no_letter bytes e
 exponent_ends (b ∷ bs) bytes e = no_digit bytes e
 
-numeral_run : (r : ℕ) (text bytes : List ℕ) (stack : List Due) → IsNumeral text → ends_value bytes ≡ true →
+pub numeral_run : (r : ℕ) (text bytes : List ℕ) (stack : List Due) → IsNumeral text → ends_value bytes ≡ true →
     accepts (text ++ bytes) (value r ∷ stack) ≡ accepts bytes stack
 unfolding IntEnds
 numeral_run r text bytes stack (l, ok, spelled) e =
@@ -57,7 +57,7 @@ numeral_opens text (l, ok, spelled) =
     regroup : (a c d : List ℕ) → a ++ c ++ d ≡ a ++ (c ++ d)
     regroup a c d = append_assoc a c d
 
-plain_run : (r : ℕ) (text bytes : List ℕ) (stack : List Due) → IsPlainValue text → Fits text bytes →
+pub plain_run : (r : ℕ) (text bytes : List ℕ) (stack : List Due) → IsPlainValue text → Fits text bytes →
     accepts (text ++ bytes) (value r ∷ stack) ≡ accepts bytes stack
 plain_run r text bytes stack (inl is) e = rw is (taken (value r) 110 (byte 117 ∷ byte 108 ∷ byte 108 ∷ []) (117 ∷ 108 ∷ 108 ∷ bytes) stack refl ∙ word_run (117 ∷ 108 ∷ 108 ∷ []) bytes stack)
 plain_run r text bytes stack (inr (inl is)) e = rw is (taken (value r) 116 (byte 114 ∷ byte 117 ∷ byte 101 ∷ []) (114 ∷ 117 ∷ 101 ∷ bytes) stack refl ∙ word_run (114 ∷ 117 ∷ 101 ∷ []) bytes stack)

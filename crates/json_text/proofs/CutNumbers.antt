@@ -1,5 +1,5 @@
 -- What a number that failed says of the bytes before the fault.
-use Rattle.std.proofs.Common.{◌≡◌, ℕ, ℤ, ◌==◌, ◌⊎◌, inl, inr, Bool, true, false, ◌||◌, cond, List, [], ◌∷◌, ◌++◌, length, take, drop, None, Ok, Err, refl, sym, ap, subst, ◌∙◌, append_assoc, arith}
+use Rattle.std.proofs.Common.{◌≡◌, ℕ, ℤ, ◌==◌, ◌⊎◌, inl, inr, Bool, true, false, ◌||◌, cond, List, [], ◌∷◌, ◌++◌, length, take, drop, Ok, Err, refl, sym, ap, subst, ◌∙◌, append_assoc, arith}
 use Rattle.std.proofs.lemmas.Bool.{eqb-true, not-true, not_from_false, or_from}
 use Rattle.std.proofs.lemmas.Bool.Decides.{nat_tests}
 use Rattle.std.proofs.lemmas.List.{append-nil}
@@ -10,16 +10,17 @@ use Rattle.std.specs.Str.{IsUtf8}
 use Rattle.json_text.specs.declared.fault.Fault.{Fault}
 use Rattle.json_text.specs.declared.fault.Fault.TheVariants as fault
 use Rattle.json_text.specs.declared.lead.Lead.TheVariants as lead
-use Rattle.json_text.specs.Numbers.{is_digit, is_exponent_letter, is_sign, Literal, IsLiteral, literal_text, fraction_text, exponent_text, worth, IsNumber}
-use Rattle.json_text.specs.Faults.{IsNumeral, NumberHere}
+use Rattle.json_text.specs.Numbers.{is_digit, is_exponent_letter, is_sign, literal_text, fraction_text, worth}
+use Rattle.json_text.specs.Faults.{IsNumeral}
 use Rattle.json_text.specs.Reading.{◌>>=◌, Read, unexpected, or_fault, digits_at, int_at, fraction_at, exponent_at, sign_of, minus_of, number_at, lead_by, lead_of}
 use Rattle.json_text.proofs.Fronts.{cons_utf8, word_utf8}
-use Rattle.json_text.proofs.FoundNumbers.{int_ok, fraction_ok, exponent_ok, minus_is, letter_small, sign_utf8, int_utf8, fraction_utf8, minus_utf8}
+use Rattle.json_text.proofs.FoundNumbers.{int_ok, fraction_ok, minus_is, letter_small, sign_utf8, int_utf8, fraction_utf8, minus_utf8}
 use Rattle.json_text.proofs.Spelled.{stops}
 use Rattle.json_text.proofs.OnlyNumbers.{letter_no_digit, letter_no_point, fraction_no_digit}
 use Rattle.json_text.proofs.Sequences.{prefix_stops}
 use Rattle.json_text.proofs.Machine.{Due, value, int, digit, point, letter, sign as due_sign, refuses, react, accepts, taken}
 use Rattle.json_text.proofs.AcceptsPlain.{IntEnds, fraction_ends, int_run, fraction_run, minus_run}
+use Rattle.json_text.proofs.NumberEnds.{literally}
 use Rattle.json_text.proofs.Cuts.{left_of, Cause, Stuck, Counts, Bars, Cut, behind_here, bars_end, bars_byte, failed, either_failed, ok_no_err, err_same, or_fault_err}
 
 -- what is due of a value
@@ -61,13 +62,13 @@ fraction_by : (b : ℕ) (bytes : List ℕ) (f : Fault) (t : Bool) → (b == 46) 
 fraction_by b bytes f true e h = let p = digits_err bytes f h in (bytes, ap (λ (x : ℕ). x ∷ bytes) (eqb-true b 46 e), p.0, p.1)
 fraction_by b bytes f false e h = absurd cc
 
-fraction_err : (bytes : List ℕ) (f : Fault) → fraction_at bytes ≡ Err f →
+pub fraction_err : (bytes : List ℕ) (f : Fault) → fraction_at bytes ≡ Err f →
     (rest : List ℕ) × (bytes ≡ 46 ∷ rest) × (unexpected rest ≡ f) × (stops is_digit rest ≡ true)
 unfolding fraction_at
 fraction_err [] f h = absurd cc
 fraction_err (b ∷ bytes) f h = fraction_by b bytes f (b == 46) refl h
 
-int_err : (bytes : List ℕ) (f : Fault) → int_at bytes ≡ Err f →
+pub int_err : (bytes : List ℕ) (f : Fault) → int_at bytes ≡ Err f →
     (unexpected bytes ≡ f) × (stops is_digit bytes ≡ true) × ((stack : List Due) → Bars (int ∷ stack) bytes)
 unfolding int_at
 int_err [] f h = ((digits_err [] f h).0, refl, λ stack. bars_end int stack refl)
@@ -153,7 +154,7 @@ exponent_by b bytes f true e h = by (failed {B = (Bool × List ℕ) × List ℕ}
     by (inr (x, g, never)) = absurd cc
 exponent_by b bytes f false e h = absurd cc
 
-exponent_err : (bytes : List ℕ) (f : Fault) → exponent_at bytes ≡ Err f → ExponentCut bytes f
+pub exponent_err : (bytes : List ℕ) (f : Fault) → exponent_at bytes ≡ Err f → ExponentCut bytes f
 unfolding exponent_at
 exponent_err [] f h = absurd cc
 exponent_err (b ∷ bytes) f h = exponent_by b bytes f (is_exponent_letter b) refl h
@@ -163,24 +164,30 @@ exponent_err (b ∷ bytes) f h = exponent_by b bytes f (is_exponent_letter b) re
 number_first : (b : ℕ) → lead_by b ≡ lead.Number → ((b == 45) || is_digit b) ≡ true
 number_first b h = grind (arith, nat_tests)
 
-minus_cut : (room b : ℕ) (bytes : List ℕ) (f : Fault) (t : Bool) → (b == 45) ≡ t → lead_by b ≡ lead.Number →
-    int_at (cond {A = Bool × List ℕ} t (true, bytes) (false, b ∷ bytes)).1 ≡ Err f → Cut IsNumeral a_value room (b ∷ bytes) f
-minus_cut room b bytes f true e n h =
-    let p = int_err bytes f h in
-    behind_here IsNumeral a_value room (45 ∷ []) (48 ∷ []) (b ∷ bytes) bytes f (word_utf8 (45 ∷ []) refl) (ap (λ (x : ℕ). x ∷ bytes) (eqb-true b 45 e)) p.0
-    (record { minus = true; whole = 48 ∷ []; fraction = []; letter = 101; sign = []; exponent = [] }, record { whole = refl; fraction = refl; letter = refl; sign = refl; exponent = refl }, refl)
-    (λ r le stack others a. taken (value r) 45 (int ∷ point ∷ letter ∷ []) others stack refl ∙ p.2 (point ∷ letter ∷ stack) others a)
-minus_cut room b bytes f false e n h =
+minus_by : (b : ℕ) (bytes : List ℕ) (f : Fault) (t : Bool) → (b == 45) ≡ t → lead_by b ≡ lead.Number →
+    int_at (cond {A = Bool × List ℕ} t (true, bytes) (false, b ∷ bytes)).1 ≡ Err f →
+    (b ∷ bytes ≡ 45 ∷ bytes) × (unexpected bytes ≡ f) × ((stack : List Due) → Bars (int ∷ stack) bytes)
+minus_by b bytes f true e n h = let p = int_err bytes f h in (ap (λ (x : ℕ). x ∷ bytes) (eqb-true b 45 e), p.0, p.2)
+minus_by b bytes f false e n h =
     let p = int_err (b ∷ bytes) f h in
     let d = not-true (is_digit b) p.1 in
     let none = or_from (b == 45) (is_digit b) e d in
     let some = number_first b n in
     absurd cc
 
+-- a minus, and no digit behind it
+pub minus_here : (bytes : List ℕ) (f : Fault) → lead_of bytes ≡ lead.Number → int_at (minus_of bytes).1 ≡ Err f →
+    (rest : List ℕ) × (bytes ≡ 45 ∷ rest) × (unexpected rest ≡ f) × ((stack : List Due) → Bars (int ∷ stack) rest)
+minus_here [] f n h = absurd cc
+minus_here (b ∷ bytes) f n h = let p = minus_by b bytes f (b == 45) refl n h in (bytes, p.0, p.1, p.2)
+
 int_cut : (room : ℕ) (bytes : List ℕ) (f : Fault) → lead_of bytes ≡ lead.Number → int_at (minus_of bytes).1 ≡ Err f →
     Cut IsNumeral a_value room bytes f
-int_cut room [] f n h = absurd cc
-int_cut room (b ∷ bytes) f n h = minus_cut room b bytes f (b == 45) refl n h
+int_cut room bytes f n h =
+    let (rest, spelled, why, bars) = minus_here bytes f n h in
+    behind_here IsNumeral a_value room (45 ∷ []) (48 ∷ []) bytes rest f (word_utf8 (45 ∷ []) refl) spelled why
+    (record { minus = true; whole = 48 ∷ []; fraction = []; letter = 101; sign = []; exponent = [] }, record { whole = refl; fraction = refl; letter = refl; sign = refl; exponent = refl }, refl)
+    (λ r le stack others a. taken (value r) 45 (int ∷ point ∷ letter ∷ []) others stack refl ∙ bars (point ∷ letter ∷ stack) others a)
 
 fraction_cut : (room : ℕ) (bytes whole rest : List ℕ) (f : Fault) → int_at (minus_of bytes).1 ≡ Ok (whole, rest) → fraction_at rest ≡ Err f →
     Cut IsNumeral a_value room bytes f
@@ -248,35 +255,21 @@ exponent_cut room bytes whole rest fraction behind f i j h =
 
 range_cut : (room : ℕ) (bytes whole rest fraction behind : List ℕ) (down : Bool) (exponent last : List ℕ) (f : Fault) →
     int_at (minus_of bytes).1 ≡ Ok (whole, rest) → fraction_at rest ≡ Ok (fraction, behind) → exponent_at behind ≡ Ok ((down, exponent), last) →
-    worth (minus_of bytes).0 whole fraction down exponent ≡ None → fault.Number (length bytes) ≡ f → Cut IsNumeral a_value room bytes f
-range_cut room bytes whole rest fraction behind down exponent last f i j k w e =
-    let m = minus_of bytes in
-    let int = int_ok m.1 whole rest i in
-    let frac = fraction_ok rest fraction behind j in
-    let exp = exponent_ok behind down exponent last k in
-    let l : Literal = record { minus = m.0; whole = whole; fraction = fraction; letter = exp.letter; sign = exp.sign; exponent = exponent } in
-    let ok : IsLiteral l = record { whole = int.is; fraction = frac.digits_all; letter = exp.is_letter; sign = exp.is_sign; exponent = exp.digits_all } in
-    let is : IsNumber (literal_text l) None = (l, ok, refl, sym w ∙ ap (λ (d : Bool). worth m.0 whole fraction d exponent) exp.is_down) in
-    let spelled : bytes ≡ literal_text l ++ last =
-    minus_is bytes
-    ∙ ap (λ (x : List ℕ). cond m.0 (45 ∷ []) [] ++ x) (int.spelled ∙ ap (λ (x : List ℕ). whole ++ x) (frac.spelled ∙ ap (λ (x : List ℕ). fraction_text fraction ++ x) exp.spelled))
-    ∙ regroup5 (cond m.0 (45 ∷ []) []) whole (fraction_text fraction) (exponent_text exp.letter exp.sign exponent) last in
-    let numeral : IsNumeral (literal_text l) = (l, ok, refl) in
-    let cause : NumberHere bytes = (literal_text l, last, is, spelled) in
+    fault.Number (length bytes) ≡ f → Cut IsNumeral a_value room bytes f
+range_cut room bytes whole rest fraction behind down exponent last f i j k e =
+    let n = literally bytes whole rest fraction behind down exponent last i j k in
+    let cause : Cause (fault.Number (length bytes)) bytes = tt in
     record {
       front = [];
       rest = bytes;
-      others = literal_text l;
+      others = literal_text n.stays.literal;
       spelled = refl;
       left = ap (λ (g : Fault). left_of g) (sym e);
-      is = numeral;
+      is = (n.stays.literal, n.stays.is, refl);
       valid = IsUtf8-nil;
       cause = subst (λ (g : Fault). Cause g bytes) e cause;
       stuck = λ r k stack others a. absurd (subst (λ (g : Fault). Counts g room r) (sym e) k);
     }
-  where
-    regroup5 : (a b c d e : List ℕ) → a ++ (b ++ (c ++ (d ++ e))) ≡ a ++ b ++ c ++ d ++ e
-    regroup5 a b c d e = simp append_assoc
 
 pub number_err : (room : ℕ) (bytes : List ℕ) (f : Fault) → lead_of bytes ≡ lead.Number → number_at bytes ≡ Err f → Cut IsNumeral a_value room bytes f
 unfolding number_at
@@ -289,5 +282,5 @@ number_err room bytes f n h =
     (λ r j k. either_failed {B = ℤ × List ℕ} (exponent_at r.1) (λ exponent. or_fault (fault.Number (length bytes)) (worth m.0 w.0 r.0 exponent.0.0 exponent.0.1) >>= λ n. Ok (n, exponent.1)) f (Cut IsNumeral a_value room bytes f)
     (λ e. exponent_cut room bytes w.0 w.1 r.0 r.1 f i j e)
     (λ x l o. either_failed {B = ℤ × List ℕ} (or_fault (fault.Number (length bytes)) (worth m.0 w.0 r.0 x.0.0 x.0.1)) (λ n. Ok (n, x.1)) f (Cut IsNumeral a_value room bytes f)
-    (λ e. let p = or_fault_err (fault.Number (length bytes)) (worth m.0 w.0 r.0 x.0.0 x.0.1) f e in range_cut room bytes w.0 w.1 r.0 r.1 x.0.0 x.0.1 x.1 f i j l p.1 p.0)
+    (λ e. let p = or_fault_err (fault.Number (length bytes)) (worth m.0 w.0 r.0 x.0.0 x.0.1) f e in range_cut room bytes w.0 w.1 r.0 r.1 x.0.0 x.0.1 x.1 f i j l p.0)
     (λ v e never. absurd (ok_no_err (v, x.1) f never)) o) k) g) h

@@ -149,7 +149,7 @@ between value_read Is room s bytes v rest e =
 abbrev pub IsClosed : (List ℕ → Type 0) → ℕ → List ℕ → Type 0
 IsClosed IsPart closing text = (part : List ℕ) × IsPart part × (text ≡ part ++ closing ∷ [])
 
-abbrev IsSome : (List ℕ → Type 0) → ℕ → List ℕ → Type 0
+abbrev pub IsSome : (List ℕ → Type 0) → ℕ → List ℕ → Type 0
 IsSome IsPart closing text = (part : List ℕ) × (parts : List (List ℕ)) × IsPart part × Every IsPart parts × (text ≡ joined (part ∷ parts) ++ closing ∷ [])
 
 abbrev pub IsInner : (List ℕ → Type 0) → ℕ → List ℕ → Type 0
@@ -174,10 +174,10 @@ pub record StepCuts {Y : Type 0} (step : List ℕ → Read (List Y × Bool)) (Is
   pub next : (first : Bool) (part x : List ℕ) (r : ℕ) → room ≤ r → (stack : List Due) → IsPart part → accepts (part ++ 44 ∷ x) (due first r ++ stack) ≡ accepts x (due false r ++ stack)
   pub ends : (first : Bool) (r : ℕ) (stack : List Due) → Bars (due first r ++ stack) []
 
-closed_some : (IsPart : List ℕ → Type 0) (closing : ℕ) (text : List ℕ) → IsClosed IsPart closing text → IsSome IsPart closing text
+pub closed_some : (IsPart : List ℕ → Type 0) (closing : ℕ) (text : List ℕ) → IsClosed IsPart closing text → IsSome IsPart closing text
 closed_some IsPart closing text (part, is, e) = (part, [], is, tt, e)
 
-more_some : (IsPart : List ℕ → Type 0) (closing : ℕ) (first : List ℕ) → IsPart first → (text : List ℕ) → IsSome IsPart closing text →
+pub more_some : (IsPart : List ℕ → Type 0) (closing : ℕ) (first : List ℕ) → IsPart first → (text : List ℕ) → IsSome IsPart closing text →
     IsSome IsPart closing ((first ++ 44 ∷ []) ++ (text ++ []))
 more_some IsPart closing first h text (part, parts, is, every, e) = (
   first,
@@ -201,10 +201,10 @@ turns_cut {Y = Y} step IsPart closing due room s f first bytes o (later _ ys res
     (λ r k stack. (r, stack, k, λ x a. ap (λ (y : List ℕ). accepts y (due first r ++ stack)) (append_assoc g.part (44 ∷ []) x) ∙ s.next first g.part x r (counts_le f room r k) stack g.is))
     (turns_cut step IsPart closing due room s f false rest tt turns)
 
-some_inner : (IsPart : List ℕ → Type 0) (closing : ℕ) (text : List ℕ) → IsSome IsPart closing text → IsInner IsPart closing text
+pub some_inner : (IsPart : List ℕ → Type 0) (closing : ℕ) (text : List ℕ) → IsSome IsPart closing text → IsInner IsPart closing text
 some_inner IsPart closing text (part, parts, is, every, e) = (joined (part ∷ parts), inr (part, parts, is, every, refl), e)
 
-goes_less : (IsPart : List ℕ → Type 0) (bytes rest : List ℕ) → Goes IsPart bytes rest → length rest < length bytes
+pub goes_less : (IsPart : List ℕ → Type 0) (bytes rest : List ℕ) → Goes IsPart bytes rest → length rest < length bytes
 goes_less IsPart bytes rest g =
     let l = length-append g.part (44 ∷ rest) in
     let e : length bytes ≡ length (g.part ++ 44 ∷ rest) = ap (λ (x : List ℕ). length x) g.spelled in

@@ -5,41 +5,43 @@ use Rattle.std.specs.Str.{IsUtf8, IsValidUpTo}
 use Rattle.json_text.specs.declared.fault.Fault.{Fault}
 use Rattle.json_text.specs.declared.fault.Fault.TheVariants as fault
 use Rattle.json_text.specs.Grammar.{Padded}
-use Rattle.json_text.specs.Faults.{IsSpelled, BeginsWithin, LoneHere, NumberHere, BracketHere, IsPlace, IsLongest, FaultAt}
+use Rattle.json_text.specs.Faults.{IsSpelled, BeginsWithin, BracketHere, IsPlace, IsLongest, FaultAt}
 use Rattle.json_text.specs.Reading.{text_read, placed}
-use Rattle.json_text.proofs.Sequences.{valid_behind, valid_here}
+use Rattle.json_text.proofs.Sequences.{valid_here}
 use Rattle.json_text.proofs.AcceptsValues.{text_taken}
 use Rattle.json_text.proofs.Cuts.{left_of, Alike, alike_same, Counts, Cut}
 use Rattle.json_text.proofs.CutValues.{a_text, text_by}
+use Rattle.json_text.proofs.Clears.{Clear}
+use Rattle.json_text.proofs.ClearValues.{text_clears}
+use Rattle.json_text.proofs.ClearPlaces.{IsSomeText, clear_there, not_utf8, depth_due, out_of_range}
 
 place_of_cut : (depth : ℕ) (bytes : List ℕ) (f : Fault) (c : Cut (Padded (IsSpelled depth)) a_text depth bytes f) →
     (length bytes - left_of f ≡ length c.front)
 place_of_cut depth bytes f c = let l = ap (λ (x : List ℕ). length x) c.spelled in omega (arith, c.left, l, length-append c.front c.rest)
 
-is_place : (bytes : List ℕ) (f : Fault) (c : Cut (Padded (IsSpelled 128)) a_text 128 bytes f) → IsPlace bytes (length bytes - left_of f)
-is_place bytes f c =
-    let e : take (length bytes - left_of f) bytes ≡ c.front = ap (λ (n : ℕ). take n bytes) (place_of_cut 128 bytes f c) ∙ ap (λ (x : List ℕ). take (length c.front) x) c.spelled ∙ take_at c.front c.rest (length c.front) refl in
-    (omega arith, subst IsUtf8 (sym e) c.valid, (c.others, subst (λ (x : List ℕ). Padded (IsSpelled 128) (x ++ c.others)) (sym e) c.is))
+front_of_cut : (bytes : List ℕ) (f : Fault) (c : Cut (Padded (IsSpelled 128)) a_text 128 bytes f) → take (length bytes - left_of f) bytes ≡ c.front
+front_of_cut bytes f c = ap (λ (n : ℕ). take n bytes) (place_of_cut 128 bytes f c) ∙ ap (λ (x : List ℕ). take (length c.front) x) c.spelled ∙ take_at c.front c.rest (length c.front) refl
+
+valid_before : (bytes : List ℕ) (f : Fault) (c : Cut (Padded (IsSpelled 128)) a_text 128 bytes f) → IsUtf8 (take (length bytes - left_of f) bytes)
+valid_before bytes f c = subst IsUtf8 (sym (front_of_cut bytes f c)) c.valid
+
+is_place : (bytes : List ℕ) (f : Fault) → Cut (Padded (IsSpelled 128)) a_text 128 bytes f → Clear IsSomeText bytes f →
+    IsPlace bytes (length bytes - left_of f)
+is_place bytes f c d = (
+  omega arith,
+  valid_before bytes f c,
+  (c.others, subst (λ (x : List ℕ). Padded (IsSpelled 128) (x ++ c.others)) (sym (front_of_cut bytes f c)) c.is),
+  clear_there bytes f d,
+)
 
 rest_of_cut : (depth : ℕ) (bytes : List ℕ) (f : Fault) (c : Cut (Padded (IsSpelled depth)) a_text depth bytes f) →
     drop (length bytes - left_of f) bytes ≡ c.rest
 rest_of_cut depth bytes f c = ap (λ (n : ℕ). drop n bytes) (place_of_cut depth bytes f c) ∙ ap (λ (x : List ℕ). drop (length c.front) x) c.spelled ∙ drop_at c.front c.rest (length c.front) refl
 
--- where what stands before the fault ends being UTF-8
-up_to : (depth : ℕ) (bytes : List ℕ) (f : Fault) (c : Cut (Padded (IsSpelled depth)) a_text depth bytes f) → IsValidUpTo c.rest 0 →
-    IsValidUpTo bytes (length bytes - left_of f)
-up_to depth bytes f c v =
-    subst (λ (n : ℕ). IsValidUpTo bytes n) (sym (place_of_cut depth bytes f c)) (subst (λ (x : List ℕ). IsValidUpTo x (length c.front)) (sym c.spelled) (valid_behind c.front c.rest c.valid v))
-
 up_from : (depth : ℕ) (bytes : List ℕ) (f : Fault) (c : Cut (Padded (IsSpelled depth)) a_text depth bytes f) →
     IsValidUpTo bytes (length bytes - left_of f) → IsValidUpTo c.rest 0
 up_from depth bytes f c v =
     valid_here c.front c.rest c.valid (subst (λ (x : List ℕ). IsValidUpTo x (length c.front)) c.spelled (subst (λ (n : ℕ). IsValidUpTo bytes n) (place_of_cut depth bytes f c) v))
-
-not_utf8 : (bytes : List ℕ) (n : ℕ) (c : Cut (Padded (IsSpelled 128)) a_text 128 bytes (fault.Utf8 n)) → (IsValidUpTo c.rest 0 ⊎ LoneHere c.rest) →
-    IsValidUpTo bytes (length bytes - n) ⊎ LoneHere (drop (length bytes - n) bytes)
-not_utf8 bytes n c (inl v) = inl (up_to 128 bytes (fault.Utf8 n) c v)
-not_utf8 bytes n c (inr alone) = inr (subst LoneHere (sym (rest_of_cut 128 bytes (fault.Utf8 n) c)) alone)
 
 -- a text that begins so goes on with no other byte than the one at the fault
 begins_no_longer : (bytes : List ℕ) (f : Fault) (c : Cut (Padded (IsSpelled 128)) a_text 128 bytes f) (depth r : ℕ) → depth ≤ r → Counts f 128 r →
@@ -95,13 +97,16 @@ too_deep bytes n c begins = begins_no_longer bytes (fault.Depth n) c 128 128 (om
         one rest more (inl is) = let z : length rest ≡ suc (length more) = ap (λ (x : List ℕ). length x) is in omega arith
         one rest more (inr is) = let z : length rest ≡ suc (length more) = ap (λ (x : List ℕ). length x) is in omega arith
 
-placed_by : (bytes : List ℕ) (f : Fault) → Cut (Padded (IsSpelled 128)) a_text 128 bytes f → FaultAt bytes (placed (length bytes) f)
-placed_by bytes (fault.Syntax n) c = (is_place bytes (fault.Syntax n) c, longest bytes n c, λ v. c.cause (up_from 128 bytes (fault.Syntax n) c v))
-placed_by bytes (fault.Utf8 n) c = (is_place bytes (fault.Utf8 n) c, not_utf8 bytes n c c.cause)
-placed_by bytes (fault.Depth n) c = (is_place bytes (fault.Depth n) c, subst BracketHere (sym (rest_of_cut 128 bytes (fault.Depth n) c)) c.cause, too_deep bytes n c)
-placed_by bytes (fault.Number n) c = (is_place bytes (fault.Number n) c, subst NumberHere (sym (rest_of_cut 128 bytes (fault.Number n) c)) c.cause)
+placed_by : (bytes : List ℕ) (f : Fault) → Cut (Padded (IsSpelled 128)) a_text 128 bytes f → Clear IsSomeText bytes f → FaultAt bytes (placed (length bytes) f)
+placed_by bytes (fault.Syntax n) c d = (is_place bytes (fault.Syntax n) c d, longest bytes n c, λ v. c.cause (up_from 128 bytes (fault.Syntax n) c v))
+placed_by bytes (fault.Utf8 n) c d = (is_place bytes (fault.Utf8 n) c d, not_utf8 bytes n (valid_before bytes (fault.Utf8 n) c) d)
+placed_by bytes (fault.Depth n) c d = (
+  is_place bytes (fault.Depth n) c d,
+  (depth_due bytes n d, subst BracketHere (sym (rest_of_cut 128 bytes (fault.Depth n) c)) c.cause, too_deep bytes n c),
+)
+placed_by bytes (fault.Number n) c d = (is_place bytes (fault.Number n) c d, out_of_range bytes n d)
 
 -- what a fault tells of the bytes
 pub fault_told : (bytes : List ℕ) (f : Fault) → text_read bytes ≡ Err f → FaultAt bytes (placed (length bytes) f)
 unfolding text_read
-fault_told bytes f h = placed_by bytes f (text_by 128 bytes f h)
+fault_told bytes f h = placed_by bytes f (text_by 128 bytes f h) (text_clears 128 bytes f h)

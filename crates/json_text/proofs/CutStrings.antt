@@ -1,5 +1,5 @@
 -- What a string that failed says of the bytes before the fault.
-use Rattle.std.proofs.Common.{◌≡◌, ℕ, suc, ◌+◌, ◌-◌, ◌*◌, ◌<◌, ◌==◌, inl, inr, Bool, true, false, ◌&&◌, cond, List, [], ◌∷◌, ◌++◌, length, take, drop, map, Some, None, Ok, Err, refl, sym, ap, subst, ◌∙◌, append_assoc, arith}
+use Rattle.std.proofs.Common.{◌≡◌, ℕ, suc, ◌+◌, ◌-◌, ◌*◌, ◌<◌, ◌==◌, Bool, true, false, ◌&&◌, cond, List, [], ◌∷◌, ◌++◌, length, take, drop, map, Some, None, Ok, Err, refl, sym, ap, subst, ◌∙◌, append_assoc, arith}
 use Rattle.std.proofs.lemmas.Bool.{eqb-true, eqb-false, and_from, not-true}
 use Rattle.std.proofs.lemmas.Grind.{flat_map-append}
 use Rattle.std.proofs.lemmas.List.{append-nil, take-append-drop, drop_at, length-take-le, length-drop}
@@ -8,18 +8,18 @@ use Rattle.std.proofs.lemmas.Str.{IsUtf8-nil, utf8_valid_len_le}
 use Rattle.std.specs.Prelude.{IsTrue}
 use Rattle.std.specs.List.{prefix_len, list_all, flat_map}
 use Rattle.std.specs.Char.{encode_utf8}
-use Rattle.std.specs.Str.{IsUtf8}
+use Rattle.std.specs.Str.{IsUtf8, IsValidUpTo}
 use Rattle.std.specs.Str.Lossy.{utf8_valid_len}
 use Rattle.json_text.specs.declared.fault.Fault.{Fault}
 use Rattle.json_text.specs.declared.fault.Fault.TheVariants as fault
 use Rattle.json_text.specs.Strings.{is_plain, is_hex, hex_value, short_escape, Char, plain, short, unit, is_char, char_text}
-use Rattle.json_text.specs.Faults.{LoneHere, IsQuoted}
+use Rattle.json_text.specs.Faults.{IsQuoted}
 use Rattle.json_text.specs.Reading.{◌>>=◌, Read, unexpected, or_fault, hex_of, hex_at, unit_at, char_at, escape_at, end_at, run_at, piece_at, text_at}
 use Rattle.json_text.proofs.Prefix.{prefix_passes}
 use Rattle.json_text.proofs.Fronts.{ok_pair, cons_utf8, word_utf8}
 use Rattle.json_text.proofs.Spelled.{stops}
-use Rattle.json_text.proofs.Sequences.{two_parts, valid_front, prefix_stops, run_stops, lone}
-use Rattle.json_text.proofs.FoundStrings.{hex_ok, hex_small, unit_ok, run_is, piece_ok, run_text, run_all}
+use Rattle.json_text.proofs.Sequences.{two_parts, valid_front, prefix_stops, run_stops}
+use Rattle.json_text.proofs.FoundStrings.{hex_ok, hex_small, run_is, piece_ok, run_text, run_all}
 use Rattle.json_text.proofs.Machine.{Due, chars as due_chars, escape as due_escape, hex as due_hex, takes, refuses, react, accepts, taken}
 use Rattle.json_text.proofs.AcceptsPlain.{hex_run, chars_run}
 use Rattle.json_text.proofs.Pieces.{piece_shrinks}
@@ -31,7 +31,7 @@ hex_none : (b : ℕ) (t : Bool) → is_hex b ≡ t → cond t (Some (hex_value b
 hex_none b true e h = absurd cc
 hex_none b false e h = e
 
-hex_err : (bytes : List ℕ) (f : Fault) → hex_at bytes ≡ Err f → (unexpected bytes ≡ f) × ((stack : List Due) → Bars (due_hex ∷ stack) bytes)
+pub hex_err : (bytes : List ℕ) (f : Fault) → hex_at bytes ≡ Err f → (unexpected bytes ≡ f) × ((stack : List Due) → Bars (due_hex ∷ stack) bytes)
 unfolding hex_at
 hex_err [] f h = (err_same {A = ℕ × List ℕ} (unexpected []) f h, λ stack. bars_end due_hex stack refl)
 hex_err (b ∷ bytes) f h =
@@ -82,8 +82,8 @@ new_line : IsEscape (92 ∷ 110 ∷ [])
 new_line = (short 110, refl, refl)
 
 -- the place of a surrogate without its partner is its backslash
-lone_cut : (left : ℕ) (bytes : List ℕ) (f : Fault) → left ≡ length bytes → fault.Utf8 left ≡ f → LoneHere bytes → Cut IsEscape a_string 0 bytes f
-lone_cut left bytes f l e alone = record {
+lone_cut : (left : ℕ) (bytes : List ℕ) (f : Fault) → left ≡ length bytes → fault.Utf8 left ≡ f → Cut IsEscape a_string 0 bytes f
+lone_cut left bytes f l e = record {
   front = [];
   rest = bytes;
   others = 92 ∷ 110 ∷ [];
@@ -91,7 +91,7 @@ lone_cut left bytes f l e alone = record {
   left = ap (λ (g : Fault). left_of g) (sym e) ∙ l;
   is = new_line;
   valid = IsUtf8-nil;
-  cause = let cause : Cause (fault.Utf8 left) bytes = inr alone in subst (λ (g : Fault). Cause g bytes) e cause;
+  cause = let cause : Cause (fault.Utf8 left) bytes = tt in subst (λ (g : Fault). Cause g bytes) e cause;
   stuck = λ r k stack others a. absurd (subst (λ (g : Fault). Counts g 0 r) (sym e) k);
 }
 
@@ -106,8 +106,7 @@ escape_by left b bytes f true l e h =
     (λ g. within IsFour IsEscape a_string four_digits 0 0 (92 ∷ 117 ∷ []) [] (92 ∷ b ∷ bytes) bytes f (word_utf8 (92 ∷ 117 ∷ []) refl) same
     (λ text is. (unit is.0 is.1 is.2 is.3, is.4, ap (λ (x : List ℕ). 92 ∷ 117 ∷ x) (append-nil text ∙ is.5)))
     (λ r k stack. (0, due_chars ∷ stack, counts_none f 0 r k, λ x a. taken due_chars 92 (due_escape ∷ due_chars ∷ []) (117 ∷ x) stack refl ∙ taken due_escape 117 (due_hex ∷ due_hex ∷ due_hex ∷ due_hex ∷ []) x (due_chars ∷ stack) refl)) (unit_err bytes f g))
-    (λ u p g. let o = or_fault_err (fault.Utf8 left) (char_at u.0 u.1) f g in
-    lone_cut left (92 ∷ b ∷ bytes) f l o.0 (subst LoneHere (sym same) (lone bytes u.0 u.1 (unit_ok bytes u.0 u.1 p) o.1))) h
+    (λ u p g. lone_cut left (92 ∷ b ∷ bytes) f l (or_fault_err (fault.Utf8 left) (char_at u.0 u.1) f g).0) h
 escape_by left b bytes f false l e h =
     either_failed {B = ℕ × List ℕ} (or_fault (unexpected (b ∷ bytes)) (short_escape b)) (λ c. Ok (c, bytes)) f (Cut IsEscape a_string 0 (92 ∷ b ∷ bytes) f)
     (λ g. let p = or_fault_err (unexpected (b ∷ bytes)) (short_escape b) f g in
@@ -163,25 +162,19 @@ all_front p (b ∷ front) back h =
     let others = all_front p front back k.1 in
     rw (k.0, others) refl
 
--- a run that isn't UTF-8: its longest front that is, the rest of it, and what stands behind it
-run_cut : (bytes front bad behind : List ℕ) → bytes ≡ (front ++ bad) ++ behind → list_all is_plain (front ++ bad) ≡ true →
-    utf8_valid_len (front ++ bad) ≡ length front → 0 < length bad →
-    stops is_plain behind ≡ true → IsUtf8 front → Cut IsRest a_string 0 bytes (fault.Utf8 (length (bad ++ behind)))
-run_cut bytes front bad behind spelled plain_run valid some stop u = record {
-  front = front;
-  rest = bad ++ behind;
-  others = 34 ∷ [];
-  spelled = spelled ∙ append_assoc front bad behind;
-  left = refl;
-  is = (map plain front, run_all front ∙ all_front is_plain front bad plain_run, ap (λ (x : List ℕ). x ++ 34 ∷ []) (sym (run_text front)));
-  valid = u;
-  cause = inl (run_stops front bad behind valid some stop);
-  stuck = λ r k stack others a. absurd k;
-}
+-- a run that isn't UTF-8: its longest front that is, and what stands behind that
+pub record RunFails (bytes : List ℕ) (f : Fault) : Type 0 where
+  pub front : List ℕ
+  pub rest : List ℕ
+  pub spelled : bytes ≡ front ++ rest
+  pub are : list_all is_plain front ≡ true
+  pub valid : IsUtf8 front
+  pub is : fault.Utf8 (length rest) ≡ f
+  pub cause : IsValidUpTo rest 0
 
 run_by : (bytes : List ℕ) (f : Fault) (t : Bool) →
     (utf8_valid_len (take (prefix_len is_plain bytes) bytes) == length (take (prefix_len is_plain bytes) bytes)) ≡ t →
-    ◌≡◌ {A = Read (List ℕ)} (cond t (Ok (take (prefix_len is_plain bytes) bytes, drop (prefix_len is_plain bytes) bytes)) (Err (fault.Utf8 (length (drop (utf8_valid_len (take (prefix_len is_plain bytes) bytes)) bytes))))) (Err f) → Cut IsRest a_string 0 bytes f
+    ◌≡◌ {A = Read (List ℕ)} (cond t (Ok (take (prefix_len is_plain bytes) bytes, drop (prefix_len is_plain bytes) bytes)) (Err (fault.Utf8 (length (drop (utf8_valid_len (take (prefix_len is_plain bytes) bytes)) bytes))))) (Err f) → RunFails bytes f
 run_by bytes f true e h = absurd cc
 run_by bytes f false e h =
     let n = prefix_len is_plain bytes in
@@ -196,16 +189,42 @@ run_by bytes f false e h =
     let front_len : length front ≡ valid = length-take-le valid run le in
     let bad_len : length bad ≡ length run - valid = length-drop valid run in
     let some : 0 < length bad = omega arith in
-    let spelled : bytes ≡ (front ++ bad) ++ behind = sym (take-append-drop n bytes) ∙ ap (λ (x : List ℕ). x ++ behind) (sym whole) in
+    let spelled : bytes ≡ front ++ (bad ++ behind) = sym (take-append-drop n bytes) ∙ ap (λ (x : List ℕ). x ++ behind) (sym whole) ∙ append_assoc front bad behind in
     let plain_run : list_all is_plain (front ++ bad) ≡ true = subst (λ (x : List ℕ). list_all is_plain x ≡ true) (sym whole) (prefix_passes is_plain bytes run n refl refl) in
     let is_valid : utf8_valid_len (front ++ bad) ≡ length front = ap (λ (x : List ℕ). utf8_valid_len x) whole ∙ sym front_len in
-    let c = run_cut bytes front bad behind spelled plain_run is_valid some (prefix_stops is_plain bytes) (valid_front run) in
-    let left : drop valid bytes ≡ bad ++ behind = ap (λ (x : List ℕ). drop valid x) (spelled ∙ append_assoc front bad behind) ∙ drop_at front (bad ++ behind) valid front_len in
-    subst (λ (g : Fault). Cut IsRest a_string 0 bytes g) (ap (λ (x : List ℕ). fault.Utf8 (length x)) (sym left) ∙ err_same {A = List ℕ × List ℕ} (fault.Utf8 (length (drop valid bytes))) f h) c
+    let left : drop valid bytes ≡ bad ++ behind = ap (λ (x : List ℕ). drop valid x) spelled ∙ drop_at front (bad ++ behind) valid front_len in
+    record {
+      front = front;
+      rest = bad ++ behind;
+      spelled = spelled;
+      are = all_front is_plain front bad plain_run;
+      valid = valid_front run;
+      is = ap (λ (x : List ℕ). fault.Utf8 (length x)) (sym left) ∙ err_same {A = List ℕ × List ℕ} (fault.Utf8 (length (drop valid bytes))) f h;
+      cause = run_stops front bad behind is_valid some (prefix_stops is_plain bytes);
+    }
+
+pub run_fails : (bytes : List ℕ) (f : Fault) → run_at bytes ≡ Err f → RunFails bytes f
+unfolding run_at
+run_fails bytes f h = run_by bytes f (utf8_valid_len (take (prefix_len is_plain bytes) bytes) == length (take (prefix_len is_plain bytes) bytes)) refl h
+
+run_cut : (bytes front rest : List ℕ) → bytes ≡ front ++ rest → list_all is_plain front ≡ true → IsUtf8 front →
+    Cut IsRest a_string 0 bytes (fault.Utf8 (length rest))
+run_cut bytes front rest spelled are valid = record {
+  front = front;
+  rest = rest;
+  others = 34 ∷ [];
+  spelled = spelled;
+  left = refl;
+  is = (map plain front, run_all front ∙ are, ap (λ (x : List ℕ). x ++ 34 ∷ []) (sym (run_text front)));
+  valid = valid;
+  cause = tt;
+  stuck = λ r k stack others a. absurd k;
+}
 
 run_err : (bytes : List ℕ) (f : Fault) → run_at bytes ≡ Err f → Cut IsRest a_string 0 bytes f
-unfolding run_at
-run_err bytes f h = run_by bytes f (utf8_valid_len (take (prefix_len is_plain bytes) bytes) == length (take (prefix_len is_plain bytes) bytes)) refl h
+run_err bytes f h =
+    let c = run_fails bytes f h in
+    subst (λ (g : Fault). Cut IsRest a_string 0 bytes g) c.is (run_cut bytes c.front c.rest c.spelled c.are c.valid)
 
 -- characters before the rest of a string
 more_chars : (chars : List Char) → list_all is_char chars ≡ true → (text : List ℕ) → IsRest text → IsRest (flat_map char_text chars ++ (text ++ []))

@@ -30,16 +30,16 @@ use Rattle.json_text.proofs.CutMembers.{member_due, members_err}
 
 -- ---- scalars
 
-true_first : (b : ℕ) → lead_by b ≡ lead.True → b ≡ 116
+pub true_first : (b : ℕ) → lead_by b ≡ lead.True → b ≡ 116
 true_first b h = grind (arith, nat_tests)
 
-false_first : (b : ℕ) → lead_by b ≡ lead.False → b ≡ 102
+pub false_first : (b : ℕ) → lead_by b ≡ lead.False → b ≡ 102
 false_first b h = grind (arith, nat_tests)
 
-null_first : (b : ℕ) → lead_by b ≡ lead.Null → b ≡ 110
+pub null_first : (b : ℕ) → lead_by b ≡ lead.Null → b ≡ 110
 null_first b h = grind (arith, nat_tests)
 
-word_tail : (w : ℕ) (word bytes rest : List ℕ) (f : Fault) → bytes ≡ w ∷ rest → word_at (w ∷ word) bytes ≡ Err f → word_at word rest ≡ Err f
+pub word_tail : (w : ℕ) (word bytes rest : List ℕ) (f : Fault) → bytes ≡ w ∷ rest → word_at (w ∷ word) bytes ≡ Err f → word_at word rest ≡ Err f
 unfolding word_at
 word_tail w word bytes rest f e h =
     ap (λ (r : Result (List ℕ) Fault). r >>= λ x. word_at word x) (sym (byte_here w rest)) ∙ ap (λ (y : List ℕ). word_at (w ∷ word) y) (sym e) ∙ h
@@ -55,7 +55,7 @@ word_cut room first word bytes f valid spelled is small takes_it h =
     (word_err room word (drop 1 bytes) f small (word_tail first word bytes (drop 1 bytes) f spelled h))
 
 -- no array or object begins so
-abbrev IsFlat : Lead → Type 0
+abbrev pub IsFlat : Lead → Type 0
 IsFlat lead.Bracket = ⊥
 IsFlat lead.Brace = ⊥
 IsFlat _ = Unit {0}
@@ -223,7 +223,7 @@ value_spells (suc depth) =
 abbrev pub a_text : ℕ → List Due
 a_text r = white ∷ value r ∷ white ∷ stop ∷ []
 
-end_err : (v : Node) (bytes : List ℕ) (f : Fault) → at_end (v, bytes) ≡ Err f →
+pub end_err : (v : Node) (bytes : List ℕ) (f : Fault) → at_end (v, bytes) ≡ Err f →
     (unexpected bytes ≡ f) × ((stack : List Due) → Bars (stop ∷ stack) bytes)
 end_err v [] f h = absurd cc
 end_err v (b ∷ bytes) f h = (err_same {A = Node} (unexpected (b ∷ bytes)) f h, λ stack. bars_byte stop b bytes stack refl)

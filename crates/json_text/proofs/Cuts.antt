@@ -8,12 +8,12 @@ use Rattle.std.specs.Str.{IsUtf8, IsValidUpTo}
 use Rattle.std.specs.Str.Lossy.{utf8_valid_len}
 use Rattle.json_text.specs.declared.fault.Fault.{Fault}
 use Rattle.json_text.specs.declared.fault.Fault.TheVariants as fault
-use Rattle.json_text.specs.Faults.{LoneHere, NumberHere, BracketHere}
+use Rattle.json_text.specs.Faults.{BracketHere}
 use Rattle.json_text.specs.Reading.{◌>>=◌, Read, unexpected, or_fault, strip, byte_at, word_at, repeated, turn, with_front}
 use Rattle.json_text.proofs.Fronts.{byte_ok, below_128, cons_utf8}
 use Rattle.json_text.proofs.Spelled.{stops}
 use Rattle.json_text.proofs.Machine.{Due, byte, refuses, may_end, react, accepts, missing, refused, byte_run}
-use Rattle.json_text.proofs.Sequences.{no_character, some_character, two_parts}
+use Rattle.json_text.proofs.Sequences.{some_character, two_parts}
 
 -- how many bytes are left at a fault's place
 abbrev pub left_of : Fault → ℕ
@@ -24,9 +24,8 @@ left_of (fault.Number n) = n
 
 abbrev pub Cause : Fault → List ℕ → Type 0
 Cause (fault.Syntax n) rest = IsValidUpTo rest 0 → ⊥
-Cause (fault.Utf8 n) rest = IsValidUpTo rest 0 ⊎ LoneHere rest
 Cause (fault.Depth n) rest = BracketHere rest
-Cause (fault.Number n) rest = NumberHere rest
+Cause _ rest = Unit {0}
 
 -- the same first byte, or no byte
 abbrev pub Alike : List ℕ → List ℕ → Type 0
@@ -116,7 +115,7 @@ cut_as IsPart IsText due room bytes f to c =
 
 unexpected_by : (bytes : List ℕ) (t : Bool) → ((utf8_valid_len bytes == 0) && not (length bytes == 0)) ≡ t →
     (left_of (cond t (fault.Utf8 (length bytes)) (fault.Syntax (length bytes))) ≡ length bytes) × Cause (cond t (fault.Utf8 (length bytes)) (fault.Syntax (length bytes))) bytes
-unexpected_by bytes true h = (refl, inl (no_character bytes h))
+unexpected_by bytes true h = (refl, tt)
 unexpected_by bytes false h = (refl, some_character bytes h)
 
 -- it refuses the first byte, or the end

@@ -337,7 +337,7 @@ nested_ok value IsText reads lead.Null bytes v rest e h = nested_scalar IsText l
 nested_ok value IsText reads lead.Number bytes v rest e h = nested_scalar IsText lead.Number bytes v rest e h
 nested_ok value IsText reads lead.Other bytes v rest e h = nested_scalar IsText lead.Other bytes v rest e h
 
-value_ok : (depth : ℕ) → Reads (value_at depth) (IsValue depth)
+pub value_ok : (depth : ℕ) → Reads (value_at depth) (IsValue depth)
 unfolding Reads value_at IsValue IsNested
 value_ok zero bytes v rest h = flat_ok (lead_of bytes) bytes v rest refl h
 value_ok (suc depth) bytes v rest h = nested_ok (value_at depth) (IsValue depth) (value_ok depth) (lead_of bytes) bytes v rest refl h

@@ -25,6 +25,12 @@ pub mod CutParts
 pub mod CutItems
 pub mod CutMembers
 pub mod CutValues
+pub mod Clears
+pub mod ClearNumbers
+pub mod ClearStrings
+pub mod ClearParts
+pub mod ClearValues
+pub mod ClearPlaces
 pub mod CutPlaces
 pub mod Written
 pub mod CanonicalNumbers

@@ -1,16 +1,20 @@
 -- What stands behind a number that is read.
-use Rattle.std.proofs.Common.{◌≡◌, ℕ, ℤ, ◌==◌, inl, inr, Bool, true, false, cond, List, [], ◌∷◌, ◌++◌, length, take, drop, Ok, Err, refl, sym, ap, subst, ◌∙◌, append_assoc}
+use Rattle.std.proofs.Common.{◌≡◌, ℕ, ℤ, ◌==◌, inl, inr, Bool, true, false, cond, List, [], ◌∷◌, ◌++◌, length, take, drop, Option, None, Ok, Err, refl, sym, ap, subst, ◌∙◌, append_assoc}
 use Rattle.std.proofs.lemmas.Bool.{eqb-true, not_from_false}
+use Rattle.std.proofs.lemmas.List.{append-nil}
 use Rattle.std.specs.List.{prefix_len}
 use Rattle.json_text.specs.declared.fault.Fault.{Fault}
 use Rattle.json_text.specs.declared.fault.Fault.TheVariants as fault
-use Rattle.json_text.specs.Numbers.{is_digit, is_exponent_letter, Literal, IsLiteral, literal_text, fraction_text, exponent_text, worth}
+use Rattle.json_text.specs.Numbers.{is_digit, is_exponent_letter, is_minus, Literal, IsLiteral, literal_text, fraction_text, exponent_text, worth}
+use Rattle.json_text.specs.Faults.{IsWhole, NumberHere}
 use Rattle.json_text.specs.Reading.{◌>>=◌, Read, unexpected, or_fault, digits_at, int_at, fraction_at, exponent_at, sign_of, minus_of, number_at}
 use Rattle.json_text.proofs.Fronts.{bound, ok_pair}
 use Rattle.json_text.proofs.FoundNumbers.{digits_ok, int_ok, fraction_ok, exponent_ok, minus_is}
 use Rattle.json_text.proofs.Spelled.{stops}
 use Rattle.json_text.proofs.Sequences.{prefix_stops}
-use Rattle.json_text.proofs.AcceptsPlain.{IntEnds, FractionEnds, ExponentEnds, LiteralEnds}
+use Rattle.json_text.proofs.AcceptsPlain.{IntEnds, FractionEnds, ExponentEnds, LiteralEnds, literal_run}
+use Rattle.json_text.proofs.AcceptsValues.{numeral_run}
+use Rattle.json_text.proofs.Machine.{value, accepts, too_long, nothing_due}
 use Rattle.json_text.proofs.Cuts.{Alike, alike_behind, alike_stops}
 
 digits_stop_by : (bytes ds rest : List ℕ) (f : Fault) (t : Bool) →
@@ -107,6 +111,44 @@ pub record Stays (bytes rest : List ℕ) : Type 0 where
 regroup : (a b c d rest : List ℕ) → a ++ (b ++ (c ++ (d ++ rest))) ≡ a ++ b ++ c ++ d ++ rest
 regroup a b c d rest = simp append_assoc
 
+-- a whole literal that is read, and what it is worth
+pub record Literally (bytes : List ℕ) (n : Option ℤ) (rest : List ℕ) : Type 0 where
+  pub stays : Stays bytes rest
+  pub worth_is : n ≡ worth stays.literal.minus stays.literal.whole stays.literal.fraction (is_minus stays.literal.sign) stays.literal.exponent
+
+pub literally : (bytes whole rest fraction behind : List ℕ) (down : Bool) (exponent last : List ℕ) → int_at (minus_of bytes).1 ≡ Ok (whole, rest) →
+    fraction_at rest ≡ Ok (fraction, behind) → exponent_at behind ≡ Ok ((down, exponent), last) →
+    Literally bytes (worth (minus_of bytes).0 whole fraction down exponent) last
+literally bytes whole rest fraction behind down exponent last i j k =
+    let m = minus_of bytes in
+    let int = int_ok m.1 whole rest i in
+    let frac = fraction_ok rest fraction behind j in
+    let exp = exponent_ok behind down exponent last k in
+    let l : Literal = record { minus = m.0; whole = whole; fraction = fraction; letter = exp.letter; sign = exp.sign; exponent = exponent } in
+    let e = exponent_text exp.letter exp.sign exponent in
+    let t = fraction_text fraction in
+    let ok : IsLiteral l = record { whole = int.is; fraction = frac.digits_all; letter = exp.is_letter; sign = exp.is_sign; exponent = exp.digits_all } in
+    let after : rest ≡ t ++ (e ++ last) = frac.spelled ∙ ap (λ (y : List ℕ). fraction_text fraction ++ y) exp.spelled in
+    let st : Stays bytes last = record {
+      literal = l;
+      is = ok;
+      spelled =
+          minus_is bytes ∙ ap (λ (y : List ℕ). cond m.0 (45 ∷ []) [] ++ y) (int.spelled ∙ ap (λ (y : List ℕ). whole ++ y) after)
+          ∙ regroup (cond m.0 (45 ∷ []) []) whole t e last;
+      ends = λ others a.
+          let a2 : Alike (e ++ last) (e ++ others) = alike_behind e last others a in
+          let a1 : Alike (t ++ (e ++ last)) (t ++ (e ++ others)) = alike_behind t (e ++ last) (e ++ others) a2 in
+          let w_ends : IntEnds whole (t ++ (e ++ last)) = subst (λ (y : List ℕ). IntEnds whole y) after (int_ends m.1 whole rest i) in
+          let f_ends : FractionEnds fraction (e ++ last) = subst (λ (y : List ℕ). FractionEnds fraction y) exp.spelled (fraction_ends_ok rest fraction behind j) in
+          let x_ends : ExponentEnds exponent last = exponent_ends_ok behind down exponent last k in
+          record {
+            int = int_alike whole (t ++ (e ++ last)) (t ++ (e ++ others)) a1 w_ends;
+            fraction = fraction_alike fraction (e ++ last) (e ++ others) a2 f_ends;
+            exponent = exponent_alike exponent last others a x_ends;
+          };
+    } in
+    record { stays = st; worth_is = ap (λ (d : Bool). worth m.0 whole fraction d exponent) exp.is_down }
+
 pub number_stays : (bytes : List ℕ) (n : ℤ) (rest : List ℕ) → number_at bytes ≡ Ok (n, rest) → Stays bytes rest
 unfolding number_at
 number_stays bytes n rest h =
@@ -119,28 +161,22 @@ number_stays bytes n rest h =
     let x = r.value in
     let s = bound (or_fault (fault.Number (length bytes)) (worth m.0 w.0 f.0 x.0.0 x.0.1)) (λ n. Ok (n, x.1)) (n, rest) r.second in
     let (is_n, is_rest) = ok_pair s.value n x.1 rest s.second in
-    let int = int_ok m.1 w.0 w.1 p.first in
-    let frac = fraction_ok w.1 f.0 f.1 q.first in
-    let exp = exponent_ok f.1 x.0.0 x.0.1 x.1 r.first in
-    let l : Literal = record { minus = m.0; whole = w.0; fraction = f.0; letter = exp.letter; sign = exp.sign; exponent = x.0.1 } in
-    let e = exponent_text exp.letter exp.sign x.0.1 in
-    let t = fraction_text f.0 in
-    let ok : IsLiteral l = record { whole = int.is; fraction = frac.digits_all; letter = exp.is_letter; sign = exp.is_sign; exponent = exp.digits_all } in
-    let behind : f.1 ≡ e ++ rest = exp.spelled ∙ ap (λ (y : List ℕ). exponent_text exp.letter exp.sign x.0.1 ++ y) is_rest in
-    let after : w.1 ≡ t ++ (e ++ rest) = frac.spelled ∙ ap (λ (y : List ℕ). fraction_text f.0 ++ y) behind in
-    record {
-      literal = l;
-      is = ok;
-      spelled = minus_is bytes ∙ ap (λ (y : List ℕ). cond m.0 (45 ∷ []) [] ++ y) (int.spelled ∙ ap (λ (y : List ℕ). w.0 ++ y) after) ∙ regroup (cond m.0 (45 ∷ []) []) w.0 t e rest;
-      ends = λ others a.
-          let a2 : Alike (e ++ rest) (e ++ others) = alike_behind e rest others a in
-          let a1 : Alike (t ++ (e ++ rest)) (t ++ (e ++ others)) = alike_behind t (e ++ rest) (e ++ others) a2 in
-          let w_ends : IntEnds w.0 (t ++ (e ++ rest)) = subst (λ (y : List ℕ). IntEnds w.0 y) after (int_ends m.1 w.0 w.1 p.first) in
-          let f_ends : FractionEnds f.0 (e ++ rest) = subst (λ (y : List ℕ). FractionEnds f.0 y) behind (fraction_ends_ok w.1 f.0 f.1 q.first) in
-          let x_ends : ExponentEnds x.0.1 rest = subst (λ (y : List ℕ). ExponentEnds x.0.1 y) is_rest (exponent_ends_ok f.1 x.0.0 x.0.1 x.1 r.first) in
-          record {
-            int = int_alike w.0 (t ++ (e ++ rest)) (t ++ (e ++ others)) a1 w_ends;
-            fraction = fraction_alike f.0 (e ++ rest) (e ++ others) a2 f_ends;
-            exponent = exponent_alike x.0.1 rest others a x_ends;
-          };
-    }
+    subst (λ (y : List ℕ). Stays bytes y) is_rest (literally bytes w.0 w.1 f.0 f.1 x.0.0 x.0.1 x.1 p.first q.first r.first).stays
+
+-- no number goes on with what stands behind it
+is_whole : (l : Literal) (rest : List ℕ) → IsLiteral l → ((others : List ℕ) → Alike rest others → LiteralEnds l others) → IsWhole (literal_text l) rest
+is_whole l rest ok ends b more e (others, is) =
+    let text = literal_text l in
+    let alike : Alike rest (b ∷ others) = subst (λ (x : List ℕ). Alike x (b ∷ others)) (sym e) (others, refl) in
+    let yes = numeral_run 0 ((text ++ b ∷ []) ++ others) [] [] is refl ∙ nothing_due in
+    let no = literal_run 0 l (b ∷ others) [] ok (ends (b ∷ others) alike) ∙ too_long b others in
+    let both : true ≡ false = sym yes ∙ ap (λ (x : List ℕ). accepts x (value 0 ∷ [])) (regroup2 text b others) ∙ no in
+    absurd cc
+  where
+    regroup2 : (a : List ℕ) (b : ℕ) (c : List ℕ) → ((a ++ b ∷ []) ++ c) ++ [] ≡ a ++ b ∷ c
+    regroup2 a b c = simp (append_assoc, append-nil)
+
+pub number_here : (bytes rest : List ℕ) → Literally bytes None rest → NumberHere bytes
+number_here bytes rest w =
+    let l = w.stays.literal in
+    (literal_text l, rest, (l, w.stays.is, refl, w.worth_is), is_whole l rest w.stays.is w.stays.ends, w.stays.spelled)

@@ -2,11 +2,12 @@
 use Rattle.std.specs.Prelude.{ℕ, zero, suc, ◌≡◌, ◌+◌, ◌<◌, ◌≤◌, ◌⊎◌, List, [], ◌∷◌, ◌++◌, length, take, drop, None, IsTrue}
 use Rattle.std.specs.List.{list_all}
 use Rattle.std.specs.Str.{IsUtf8, IsValidUpTo}
+use Rattle.doc_model.specs.declared.node.Node.{Node}
 use Rattle.json_text.specs.declared.bad.JsonBad.{JsonBad}
 use Rattle.json_text.specs.declared.bad.JsonBad.TheVariants as bad
 use Rattle.json_text.specs.Numbers.{Literal, IsLiteral, literal_text, IsNumber}
-use Rattle.json_text.specs.Strings.{Char, unit, is_char, char_text, string_text, unit_value, is_high, is_low}
-use Rattle.json_text.specs.Grammar.{IsWhite, Padded, joined, null_text, true_text, false_text}
+use Rattle.json_text.specs.Strings.{Char, short, unit, is_char, char_text, string_text, unit_value, is_high, is_low}
+use Rattle.json_text.specs.Grammar.{IsWhite, Padded, joined, null_text, true_text, false_text, IsJson}
 
 -- number (RFC 8259, section 6), whatever it is worth
 abbrev pub IsNumeral : List ℕ → Type 0
@@ -40,9 +41,13 @@ IsSpelled (suc depth) bytes =
     ⊎ ((inner : List ℕ) × AreParts (Padded (IsSpelled depth)) inner × (bytes ≡ 0x5B ∷ inner ++ 0x5D ∷ []))
     ⊎ ((inner : List ℕ) × AreParts (IsPair (IsSpelled depth)) inner × (bytes ≡ 0x7B ∷ inner ++ 0x7D ∷ []))
 
+-- some text of this kind begins so
+abbrev pub Begins : (List ℕ → Type 0) → List ℕ → Type 0
+Begins IsText front = (more : List ℕ) × IsText (front ++ more)
+
 -- some JSON text (section 2) begins so, in which at most so many arrays and objects enclose each other
 abbrev pub BeginsWithin : ℕ → List ℕ → Type 0
-BeginsWithin depth front = (more : List ℕ) × Padded (IsSpelled depth) (front ++ more)
+BeginsWithin depth front = Begins (Padded (IsSpelled depth)) front
 
 -- the escape of a UTF-16 code unit (section 7) stands at the front, and these bytes behind it
 abbrev pub UnitHere : List ℕ → ℕ → List ℕ → Type 0
@@ -57,26 +62,76 @@ LowHere bytes = (u : ℕ) × (rest : List ℕ) × UnitHere bytes u rest × IsTru
 abbrev pub LoneHere : List ℕ → Type 0
 LoneHere bytes = (u : ℕ) × (rest : List ℕ) × UnitHere bytes u rest × (IsTrue (is_low u) ⊎ (IsTrue (is_high u) × (LowHere rest → ⊥)))
 
+-- no number goes on with the byte behind it
+abbrev pub IsWhole : List ℕ → List ℕ → Type 0
+IsWhole text rest = (b : ℕ) (more : List ℕ) → rest ≡ b ∷ more → Begins IsNumeral (text ++ b ∷ []) → ⊥
+
 -- a whole number that is out of range stands at the front
 abbrev pub NumberHere : List ℕ → Type 0
-NumberHere bytes = (text : List ℕ) × (rest : List ℕ) × IsNumber text None × (bytes ≡ text ++ rest)
+NumberHere bytes = (text : List ℕ) × (rest : List ℕ) × IsNumber text None × IsWhole text rest × (bytes ≡ text ++ rest)
 
 -- an array or an object begins at the front
 abbrev pub BracketHere : List ℕ → Type 0
 BracketHere bytes = (rest : List ℕ) × ((bytes ≡ 0x5B ∷ rest) ⊎ (bytes ≡ 0x7B ∷ rest))
 
--- what stands before the place is UTF-8 and begins some JSON text that isn't too deep
+-- an escape (section 7): of a letter, or of a code unit
+abbrev pub IsEscape : List ℕ → Type 0
+IsEscape bytes =
+    ((b : ℕ) × IsTrue (is_char (short b)) × (bytes ≡ char_text (short b))) ⊎ ((u : ℕ) × UnitHere bytes u [])
+
+-- null, true, false, a number or an escape
+abbrev pub IsToken : List ℕ → Type 0
+IsToken bytes =
+    (bytes ≡ null_text) ⊎ (bytes ≡ true_text) ⊎ (bytes ≡ false_text) ⊎ IsNumeral bytes ⊎ IsEscape bytes
+
+-- a token begins so, and this is none
+abbrev pub IsUnfinished : List ℕ → Type 0
+IsUnfinished tail = Begins IsToken tail × (IsToken tail → ⊥)
+
+-- a text that is read begins so
+abbrev pub BeginsRead : List ℕ → Type 0
+BeginsRead front = (v : Node) × Begins (λ text. IsJson text v) front
+
+-- a text that is read begins so, but for an unfinished token at the end; a space may follow, which ends a number
+abbrev pub IsClear : List ℕ → Type 0
+IsClear front =
+    (head : List ℕ) × (tail : List ℕ) × BeginsRead (head ++ 0x20 ∷ []) × IsUnfinished tail × (front ≡ head ++ tail)
+
+-- a value is due behind it: a line feed, which stands in no string, and null may follow
+abbrev pub ValueDue : List ℕ → Type 0
+ValueDue front = BeginsRead (front ++ 0x0A ∷ null_text)
+
+-- a character of a string is due behind it: an x, which begins nothing else, may follow
+abbrev pub CharDue : List ℕ → Type 0
+CharDue front = BeginsRead (front ++ 0x78 ∷ [])
+
+-- what stands before the place is UTF-8, begins some JSON text that isn't too deep, and has no fault
 abbrev pub IsPlace : List ℕ → ℕ → Type 0
-IsPlace bytes place = (place ≤ length bytes) × IsUtf8 (take place bytes) × BeginsWithin 128 (take place bytes)
+IsPlace bytes place =
+    (place ≤ length bytes) × IsUtf8 (take place bytes) × BeginsWithin 128 (take place bytes) × IsClear (take place bytes)
 
 -- with its next byte what stands before the place begins no JSON text, and the bytes are none
 abbrev pub IsLongest : List ℕ → ℕ → Type 0
-IsLongest bytes place = (depth : ℕ) → (place < length bytes → BeginsWithin depth (take (place + 1) bytes) → ⊥) × (Padded (IsSpelled depth) bytes → ⊥)
+IsLongest bytes place =
+    (depth : ℕ) → (place < length bytes → BeginsWithin depth (take (place + 1) bytes) → ⊥) × (Padded (IsSpelled depth) bytes → ⊥)
+
+-- a surrogate without its partner is escaped in a string
+abbrev pub IsLone : List ℕ → ℕ → Type 0
+IsLone bytes place = CharDue (take place bytes) × LoneHere (drop place bytes)
+
+-- an array or an object begins as a value, with which the text is too deep
+abbrev pub IsTooDeep : List ℕ → ℕ → Type 0
+IsTooDeep bytes place =
+    ValueDue (take place bytes) × BracketHere (drop place bytes) × (BeginsWithin 128 (take (place + 1) bytes) → ⊥)
+
+-- a whole number that is out of range stands as a value
+abbrev pub IsOutOfRange : List ℕ → ℕ → Type 0
+IsOutOfRange bytes place = ValueDue (take place bytes) × NumberHere (drop place bytes)
 
 -- what each fault tells of the bytes
 abbrev pub FaultAt : List ℕ → JsonBad → Type 0
 FaultAt bytes (bad.Syntax place) = IsPlace bytes place × IsLongest bytes place × (IsValidUpTo bytes place → ⊥)
-FaultAt bytes (bad.Utf8 place) = IsPlace bytes place × (IsValidUpTo bytes place ⊎ LoneHere (drop place bytes))
-FaultAt bytes (bad.Depth place) = IsPlace bytes place × BracketHere (drop place bytes) × (BeginsWithin 128 (take (place + 1) bytes) → ⊥)
-FaultAt bytes (bad.Number place) = IsPlace bytes place × NumberHere (drop place bytes)
+FaultAt bytes (bad.Utf8 place) = IsPlace bytes place × (IsValidUpTo bytes place ⊎ IsLone bytes place)
+FaultAt bytes (bad.Depth place) = IsPlace bytes place × IsTooDeep bytes place
+FaultAt bytes (bad.Number place) = IsPlace bytes place × IsOutOfRange bytes place
 FaultAt bytes bad.Memory = Unit {0}

@@ -51,7 +51,7 @@ fn taken(rt: HostRuntime) {
 
 #[test]
 fn faults(rt: HostRuntime) {
-    let rows: [(&[u8], Option<JsonBad>); 48] = [
+    let rows: [(&[u8], Option<JsonBad>); 53] = [
         (b"", syntax(0)),
         (b"  ", syntax(2)),
         (b"\xef\xbb\xbf1", syntax(0)),
@@ -78,6 +78,8 @@ fn faults(rt: HostRuntime) {
         (b"1e99x", number(0)),
         (b"[1e21x", number(1)),
         (b"[1e21.5]", number(1)),
+        (b"[1e99,-x", number(1)),
+        (b"[12345678901234567890123x", number(1)),
         (b"123456789012345678901234.", syntax(25)),
         (b"\"", syntax(1)),
         (b"\"a", syntax(2)),
@@ -91,6 +93,9 @@ fn faults(rt: HostRuntime) {
         (b"\"\\ud800\\u0041\"", utf8(1)),
         (b"\"\\ud800\\udc0", utf8(1)),
         (b"\"a\\udc00\"", utf8(2)),
+        (b"[\"\\ud800x\",", utf8(2)),
+        (b"\"\\udc", syntax(5)),
+        (b"\"\\\\udc00\"x", syntax(9)),
         (b"\"\xc3(\"", utf8(1)),
         (b"\"ab\xed\xa0\x80\"", utf8(3)),
         (b"\"\xc3", utf8(1)),
