@@ -11,13 +11,15 @@ use Rattle.json_text.specs.Grammar.{null_text}
 use Rattle.json_text.specs.Faults.{IsNumeral, IsUnfinished}
 use Rattle.json_text.specs.Reading.{◌>>=◌, or_fault, int_at, fraction_at, exponent_at, minus_of, number_at, lead_of}
 use Rattle.json_text.proofs.Fronts.{word_utf8}
-use Rattle.json_text.proofs.FoundNumbers.{int_ok, fraction_ok, minus_is}
+use Rattle.json_text.proofs.FoundDigits.{int_ok, fraction_ok}
+use Rattle.json_text.proofs.FoundNumbers.{minus_is}
 use Rattle.json_text.proofs.OnlyNumbers.{letter_no_digit, letter_no_point, fraction_no_digit}
 use Rattle.json_text.proofs.Machine.{value, int, digit, point, letter, sign as due_sign, accepts, taken, missing}
 use Rattle.json_text.proofs.AcceptsPlain.{IntEnds, fraction_ends, int_run, fraction_run, minus_run}
 use Rattle.json_text.proofs.NumberEnds.{Literally, literally, number_here}
 use Rattle.json_text.proofs.Cuts.{left_of, either_failed, ok_no_err, or_fault_err}
-use Rattle.json_text.proofs.CutNumbers.{minus_here, fraction_err, exponent_err}
+use Rattle.json_text.proofs.CutNumbers.{minus_here}
+use Rattle.json_text.proofs.CutDigits.{fraction_err, exponent_err}
 use Rattle.json_text.proofs.Clears.{at_value, Says, Clear, clear_at, part_of_number, Nulls, clear_value}
 
 int_clear : (Is : List ℕ → Type 0) (bytes : List ℕ) (f : Fault) → Nulls Is → lead_of bytes ≡ lead.Number → int_at (minus_of bytes).1 ≡ Err f →

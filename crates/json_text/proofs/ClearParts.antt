@@ -14,8 +14,8 @@ use Rattle.json_text.specs.Grammar.{is_white, IsWhite, Padded, Each, Listed, Mem
 use Rattle.json_text.specs.Faults.{Every, AreParts}
 use Rattle.json_text.specs.Reading.{◌>>=◌, Read, strip, byte_at, behind_white, repeated, text_at, separator_at, item_at, name_at, member_at, unless_closed, items_at, members_at}
 use Rattle.json_text.proofs.Fronts.{byte_ok, cons_utf8, whites, white_utf8, word_utf8}
-use Rattle.json_text.proofs.FoundStrings.{text_ok, string_ok}
-use Rattle.json_text.proofs.FoundValues.{Front, padded, IsItem, Reads, item_ok, name_ok, member_ok}
+use Rattle.json_text.proofs.FoundTexts.{text_ok, string_ok}
+use Rattle.json_text.proofs.FoundParts.{Front, padded, IsItem, Reads, item_ok, name_ok, member_ok}
 use Rattle.json_text.proofs.Cuts.{either_failed, ok_no_err, byte_err, FailedTurns, fails, spent, later, turns_err}
 use Rattle.json_text.proofs.CutParts.{IsClosed, IsSome, IsInner, Goes, closed_some, more_some, some_inner, goes_less, separator_err}
 use Rattle.json_text.proofs.Clears.{Clear, clear_in, clear_as, clear_at, nothing}

@@ -8,7 +8,7 @@ use Rattle.json_text.specs.declared.fault.Fault.TheVariants as fault
 use Rattle.json_text.specs.Grammar.{Padded, null_text, IsValue, IsJson}
 use Rattle.json_text.specs.Faults.{IsUnfinished, LoneHere, NumberHere, BeginsRead, IsClear, ValueDue, CharDue, IsLone, IsOutOfRange}
 use Rattle.json_text.proofs.Fronts.{word_utf8}
-use Rattle.json_text.proofs.FoundValues.{IsItem}
+use Rattle.json_text.proofs.FoundParts.{IsItem}
 use Rattle.json_text.proofs.Sequences.{valid_behind}
 use Rattle.json_text.proofs.Cuts.{left_of}
 use Rattle.json_text.proofs.Clears.{Spot, anywhere, in_string, at_value, Next, Tail, Clear, nothing}

@@ -16,10 +16,12 @@ use Rattle.json_text.specs.Faults.{Begins, IsEscape, IsUnfinished, LoneHere}
 use Rattle.json_text.specs.Reading.{◌>>=◌, Read, unexpected, or_fault, hex_at, unit_at, char_at, escape_at, end_at, run_at, piece_at, text_at}
 use Rattle.json_text.proofs.Fronts.{word_utf8}
 use Rattle.json_text.proofs.Sequences.{two_parts, lone}
-use Rattle.json_text.proofs.FoundStrings.{hex_ok, unit_ok, Chars, run_is, piece_ok, run_text, run_all, run_means}
+use Rattle.json_text.proofs.FoundStrings.{hex_ok, unit_ok, Chars, run_text, run_all, run_means}
+use Rattle.json_text.proofs.FoundTexts.{run_is, piece_ok}
 use Rattle.json_text.proofs.Pieces.{piece_shrinks}
 use Rattle.json_text.proofs.Cuts.{left_of, either_failed, ok_no_err, err_same, or_fault_err, FailedTurns, fails, spent, later, turns_err}
-use Rattle.json_text.proofs.CutStrings.{hex_err, run_fails}
+use Rattle.json_text.proofs.CutEscapes.{hex_err}
+use Rattle.json_text.proofs.CutStrings.{run_fails}
 use Rattle.json_text.proofs.Clears.{anywhere, in_string, Says, Clear, clear_in, clear_at, nothing, part_of_escape}
 
 -- the rest of a string that is a text, with the quotation mark behind it

@@ -12,11 +12,13 @@ use Rattle.json_text.specs.Grammar.{IsMember, last_values, null_text, true_text,
 use Rattle.json_text.specs.Faults.{IsToken, IsEscape}
 use Rattle.json_text.specs.Reading.{◌>>=◌, Read, unexpected, byte_at, word_at, behind_white, text_at, number_at, lead_of, scalar_at, items_at, members_at, value_by, flat_by, value_at, at_end}
 use Rattle.json_text.proofs.Fronts.{byte_ok, whites, white_utf8, word_utf8}
-use Rattle.json_text.proofs.FoundValues.{padded, IsItem, Reads, value_ok, IsNested, by_first, quote_first, bracket_first, brace_first}
+use Rattle.json_text.proofs.FoundParts.{padded, IsItem, Reads}
+use Rattle.json_text.proofs.FoundValues.{value_ok, IsNested, by_first, quote_first, bracket_first, brace_first}
 use Rattle.json_text.proofs.Machine.{Due, byte, value, takes, react, accepts, taken, missing, byte_run}
 use Rattle.json_text.proofs.Cuts.{left_of, either_failed, ok_no_err, err_same, byte_err}
 use Rattle.json_text.proofs.CutParts.{IsInner}
-use Rattle.json_text.proofs.CutValues.{true_first, false_first, null_first, word_tail, IsFlat, end_err}
+use Rattle.json_text.proofs.CutScalars.{true_first, false_first, null_first, word_tail, IsFlat}
+use Rattle.json_text.proofs.CutValues.{end_err}
 use Rattle.json_text.proofs.Clears.{at_value, Says, Clear, clear_in, clear_at, nothing, escape_first, part_of_value, Nulls, clear_value}
 use Rattle.json_text.proofs.ClearNumbers.{number_clear}
 use Rattle.json_text.proofs.ClearStrings.{IsEnd, string_end, text_clear}

@@ -11,7 +11,7 @@ use Rattle.json_text.specs.Grammar.{is_white, null_text}
 use Rattle.json_text.specs.Faults.{Begins, IsNumeral, IsEscape, IsToken, IsUnfinished, LoneHere, NumberHere}
 use Rattle.json_text.specs.Reading.{unexpected, lead_by, lead_of}
 use Rattle.json_text.proofs.Machine.{value, accepts, nothing_due}
-use Rattle.json_text.proofs.AcceptsValues.{plain_run, numeral_opens}
+use Rattle.json_text.proofs.AcceptsScalars.{plain_run, numeral_opens}
 use Rattle.json_text.proofs.Sequences.{no_character}
 use Rattle.json_text.proofs.Cuts.{left_of}
 

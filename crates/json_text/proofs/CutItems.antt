@@ -5,9 +5,10 @@ use Rattle.json_text.specs.declared.fault.Fault.{Fault}
 use Rattle.json_text.specs.Grammar.{is_white, Padded, null_text}
 use Rattle.json_text.specs.Reading.{◌>>=◌, Read, strip, behind_white, separator_at, item_at, items_at}
 use Rattle.json_text.proofs.Fronts.{whites, white_utf8}
-use Rattle.json_text.proofs.FoundValues.{item_ok}
+use Rattle.json_text.proofs.FoundParts.{item_ok}
 use Rattle.json_text.proofs.Machine.{Due, white, value, item, items, accepts, missing, white_run, white_skip}
-use Rattle.json_text.proofs.AcceptsValues.{Taken, item_opens, first_item, next_item}
+use Rattle.json_text.proofs.AcceptsScalars.{Taken}
+use Rattle.json_text.proofs.AcceptsValues.{item_opens, first_item, next_item}
 use Rattle.json_text.proofs.Cuts.{Alike, alike_stops, Bars, Cut, within, behind_here, either_failed, ok_no_err}
 use Rattle.json_text.proofs.CutNumbers.{a_value}
 use Rattle.json_text.proofs.CutParts.{Spells, white_padded, white_stops, between, IsClosed, IsInner, Goes, Unclosed, StepCuts, inner_cut, separator_err, bars_items, strip_other}

@@ -10,15 +10,17 @@ use Rattle.json_text.specs.Grammar.{is_white, IsWhite, Padded, Member, null_text
 use Rattle.json_text.specs.Faults.{IsQuoted, IsPair}
 use Rattle.json_text.specs.Reading.{◌>>=◌, Read, strip, byte_at, behind_white, text_at, separator_at, name_at, member_at, members_at}
 use Rattle.json_text.proofs.Fronts.{whites, byte_ok, cons_utf8, white_utf8, word_utf8}
-use Rattle.json_text.proofs.FoundStrings.{text_ok}
-use Rattle.json_text.proofs.FoundValues.{name_ok, member_ok}
+use Rattle.json_text.proofs.FoundTexts.{text_ok}
+use Rattle.json_text.proofs.FoundParts.{name_ok, member_ok}
 use Rattle.json_text.proofs.Spelled.{stops}
 use Rattle.json_text.proofs.Machine.{Due, byte, white, value, member, members, chars as due_chars, named, accepts, missing, refused, white_run, white_skip, byte_run}
 use Rattle.json_text.proofs.AcceptsPlain.{chars_run, quote_run}
-use Rattle.json_text.proofs.AcceptsValues.{Taken, first_member, next_member, first_name, name_run, member_opens}
+use Rattle.json_text.proofs.AcceptsScalars.{Taken}
+use Rattle.json_text.proofs.AcceptsValues.{first_member, next_member, first_name, name_run, member_opens}
 use Rattle.json_text.proofs.Cuts.{Alike, alike_stops, counts_none, Bars, Cut, within, behind_here, either_failed, ok_no_err, byte_err}
 use Rattle.json_text.proofs.CutNumbers.{a_value}
-use Rattle.json_text.proofs.CutStrings.{a_string, IsRest, text_err, rest_quoted}
+use Rattle.json_text.proofs.CutEscapes.{a_string}
+use Rattle.json_text.proofs.CutStrings.{IsRest, text_err, rest_quoted}
 use Rattle.json_text.proofs.CutParts.{Spells, padded_as, quoted_from, pair_from, white_padded, white_stops, between, IsClosed, IsInner, Goes, Unclosed, StepCuts, inner_cut, separator_err, bars_members, strip_other}
 use Rattle.json_text.proofs.CutItems.{unclosed_at}
 

@@ -13,12 +13,12 @@ use Rattle.json_text.specs.Grammar.{is_white, IsWhite, Padded, Each, joined, Lis
 use Rattle.json_text.specs.Faults.{IsQuoted, IsPair, Every, AreParts, IsPlainValue}
 use Rattle.json_text.specs.Reading.{Read, unexpected, strip, behind_white, repeated, lead_of, separator_at, unless_closed}
 use Rattle.json_text.proofs.Fronts.{whites, white_utf8, word_utf8}
-use Rattle.json_text.proofs.FoundValues.{Reads}
+use Rattle.json_text.proofs.FoundParts.{Reads}
 use Rattle.json_text.proofs.Spelled.{stops}
 use Rattle.json_text.proofs.Sequences.{prefix_stops}
 use Rattle.json_text.proofs.Machine.{Due, white, value, items, members, accepts, white_run, white_skip}
 use Rattle.json_text.proofs.AcceptsPlain.{literal_run}
-use Rattle.json_text.proofs.AcceptsValues.{Taken}
+use Rattle.json_text.proofs.AcceptsScalars.{Taken}
 use Rattle.json_text.proofs.Cuts.{Alike, alike_in, alike_stops, counts_le, Bars, Cut, within, here, cut_as, bars_end, bars_byte, err_same, FailedTurns, fails, spent, later, turns_err}
 use Rattle.json_text.proofs.CutNumbers.{a_value}
 use Rattle.json_text.proofs.NumberEnds.{Stays}

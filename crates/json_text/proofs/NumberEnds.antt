@@ -9,11 +9,12 @@ use Rattle.json_text.specs.Numbers.{is_digit, is_exponent_letter, is_minus, Lite
 use Rattle.json_text.specs.Faults.{IsWhole, NumberHere}
 use Rattle.json_text.specs.Reading.{◌>>=◌, Read, unexpected, or_fault, digits_at, int_at, fraction_at, exponent_at, sign_of, minus_of, number_at}
 use Rattle.json_text.proofs.Fronts.{bound, ok_pair}
-use Rattle.json_text.proofs.FoundNumbers.{digits_ok, int_ok, fraction_ok, exponent_ok, minus_is}
+use Rattle.json_text.proofs.FoundDigits.{digits_ok, int_ok, fraction_ok, exponent_ok}
+use Rattle.json_text.proofs.FoundNumbers.{minus_is}
 use Rattle.json_text.proofs.Spelled.{stops}
 use Rattle.json_text.proofs.Sequences.{prefix_stops}
 use Rattle.json_text.proofs.AcceptsPlain.{IntEnds, FractionEnds, ExponentEnds, LiteralEnds, literal_run}
-use Rattle.json_text.proofs.AcceptsValues.{numeral_run}
+use Rattle.json_text.proofs.AcceptsScalars.{numeral_run}
 use Rattle.json_text.proofs.Machine.{value, accepts, too_long, nothing_due}
 use Rattle.json_text.proofs.Cuts.{Alike, alike_behind, alike_stops}
 

@@ -26,7 +26,7 @@ int_by : (b : ℕ) (rest : List ℕ) (t : Bool) → (b == 48) ≡ t → is_digit
 int_by b rest true e h s = refl
 int_by b rest false e h s = digits_here b [] rest (rw h refl) s
 
-two_parts : (x y : Bool) → (x && y) ≡ true → (x ≡ true) × (y ≡ true)
+pub two_parts : (x y : Bool) → (x && y) ≡ true → (x ≡ true) × (y ≡ true)
 two_parts true true h = (refl, refl)
 two_parts true false h = absurd cc
 two_parts false y h = absurd cc

@@ -7,7 +7,7 @@ use Rattle.std.specs.Char.{encode_utf8}
 use Rattle.json_text.specs.Strings.{Char, plain, short, unit, char_text, after, text_of}
 use Rattle.json_text.specs.Reading.{◌>>=◌, Read, unexpected, escape_at, end_at, run_at, piece_at}
 use Rattle.json_text.proofs.Fronts.{bound, ok_pair}
-use Rattle.json_text.proofs.FoundStrings.{piece_ok}
+use Rattle.json_text.proofs.FoundTexts.{piece_ok}
 
 end_some_by : (b : ℕ) (bytes text rest : List ℕ) (q s : Bool) →
     ◌≡◌ {A = Read (List ℕ × Bool)} (cond q (Ok (([], false), bytes)) (cond s (escape_at (suc (length bytes)) bytes >>= λ c. Ok ((encode_utf8 c.0, true), c.1)) (Err (unexpected (b ∷ bytes))))) (Ok ((text, true), rest)) → 0 < length text
