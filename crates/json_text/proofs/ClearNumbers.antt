@@ -22,19 +22,27 @@ use Rattle.json_text.proofs.CutNumbers.{minus_here}
 use Rattle.json_text.proofs.CutDigits.{fraction_err, exponent_err}
 use Rattle.json_text.proofs.Clears.{at_value, Says, Clear, clear_at, part_of_number, Nulls, clear_value}
 
-int_clear : (Is : List ℕ → Type 0) (bytes : List ℕ) (f : Fault) → Nulls Is → lead_of bytes ≡ lead.Number → int_at (minus_of bytes).1 ≡ Err f →
+int_clear : (Is : List ℕ → Type 0) (bytes : List ℕ) (f : Fault) → Nulls Is → lead_of bytes ≡ lead.Number →
+    int_at (minus_of bytes).1 ≡ Err f →
     Clear Is bytes f
 int_clear Is bytes f nulls n h =
     let (rest, spelled, why, bars) = minus_here bytes f n h in
-    clear_at Is [] (45 ∷ []) rest null_text bytes f IsUtf8-nil (word_utf8 null_text refl) spelled why unfinished (nulls 32 refl)
+    clear_at Is [] (45 ∷ []) rest null_text bytes f IsUtf8-nil (word_utf8 null_text refl) spelled why unfinished
+    (nulls 32 refl)
   where
     zero_text : IsNumeral (45 ∷ 48 ∷ [])
-    zero_text = (record { minus = true; whole = 48 ∷ []; fraction = []; letter = 101; sign = []; exponent = [] }, record { whole = refl; fraction = refl; letter = refl; sign = refl; exponent = refl }, refl)
+    zero_text = (
+      record { minus = true; whole = 48 ∷ []; fraction = []; letter = 101; sign = []; exponent = [] },
+      record { whole = refl; fraction = refl; letter = refl; sign = refl; exponent = refl },
+      refl,
+    )
 
     unfinished : IsUnfinished (45 ∷ [])
-    unfinished = part_of_number (45 ∷ []) (48 ∷ []) zero_text (taken (value 0) 45 (int ∷ point ∷ letter ∷ []) [] [] refl ∙ missing int (point ∷ letter ∷ []) refl)
+    unfinished = part_of_number (45 ∷ []) (48 ∷ []) zero_text (taken (value 0) 45 (int ∷ point ∷ letter ∷ []) [] [] refl
+        ∙ missing int (point ∷ letter ∷ []) refl)
 
-fraction_clear : (Is : List ℕ → Type 0) (bytes whole rest : List ℕ) (f : Fault) → Nulls Is → int_at (minus_of bytes).1 ≡ Ok (whole, rest) →
+fraction_clear : (Is : List ℕ → Type 0) (bytes whole rest : List ℕ) (f : Fault) → Nulls Is →
+    int_at (minus_of bytes).1 ≡ Ok (whole, rest) →
     fraction_at rest ≡ Err f → Clear Is bytes f
 unfolding IntEnds
 fraction_clear Is bytes whole rest f nulls i h =
@@ -42,12 +50,19 @@ fraction_clear Is bytes whole rest f nulls i h =
     let a = cond m.0 (45 ∷ []) [] in
     let int = int_ok m.1 whole rest i in
     let (more, spelled, why, stop) = fraction_err rest f h in
-    let is : IsNumeral ((a ++ (whole ++ 46 ∷ [])) ++ 48 ∷ []) = (record { minus = m.0; whole = whole; fraction = 48 ∷ []; letter = 101; sign = []; exponent = [] }, record { whole = int.is; fraction = refl; letter = refl; sign = refl; exponent = refl }, by a whole) in
+    let is : IsNumeral ((a ++ (whole ++ 46 ∷ [])) ++ 48 ∷ []) = (
+      record
+          { minus = m.0; whole = whole; fraction = 48 ∷ []; letter = 101; sign = []; exponent = [] },
+      record { whole = int.is; fraction = refl; letter = refl; sign = refl; exponent = refl },
+      by a whole,
+    ) in
     clear_at Is [] (a ++ (whole ++ 46 ∷ [])) more null_text bytes f IsUtf8-nil (word_utf8 null_text refl)
-    (minus_is bytes ∙ ap (λ (x : List ℕ). cond m.0 (45 ∷ []) [] ++ x) (int.spelled ∙ ap (λ (x : List ℕ). whole ++ x) spelled) ∙ regroup3 a whole 46 more)
+    (minus_is bytes ∙ ap (λ (x : List ℕ). cond m.0 (45 ∷ []) [] ++ x)
+    (int.spelled ∙ ap (λ (x : List ℕ). whole ++ x) spelled) ∙ regroup3 a whole 46 more)
     why
     (part_of_number (a ++ (whole ++ 46 ∷ [])) (48 ∷ []) is
-    (minus_run 0 m.0 whole (46 ∷ []) [] int.is ∙ int_run whole (46 ∷ []) (point ∷ letter ∷ []) int.is (inr refl) ∙ taken point 46 (digit ∷ []) [] (letter ∷ []) refl ∙ missing digit (letter ∷ []) refl))
+    (minus_run 0 m.0 whole (46 ∷ []) [] int.is ∙ int_run whole (46 ∷ []) (point ∷ letter ∷ []) int.is (inr refl)
+    ∙ taken point 46 (digit ∷ []) [] (letter ∷ []) refl ∙ missing digit (letter ∷ []) refl))
     (nulls 32 refl)
   where
     regroup3 : (a b : List ℕ) (c : ℕ) (d : List ℕ) → a ++ (b ++ c ∷ d) ≡ (a ++ (b ++ c ∷ [])) ++ d
@@ -63,7 +78,8 @@ sign_missing (b ∷ []) h = taken due_sign b (digit ∷ []) [] [] (rw h refl) �
 sign_missing (b ∷ c ∷ bs) h = absurd cc
 
 exponent_clear : (Is : List ℕ → Type 0) (bytes whole rest fraction behind : List ℕ) (f : Fault) → Nulls Is →
-    int_at (minus_of bytes).1 ≡ Ok (whole, rest) → fraction_at rest ≡ Ok (fraction, behind) → exponent_at behind ≡ Err f → Clear Is bytes f
+    int_at (minus_of bytes).1 ≡ Ok (whole, rest) → fraction_at rest ≡ Ok (fraction, behind) →
+    exponent_at behind ≡ Err f → Clear Is bytes f
 unfolding IntEnds
 exponent_clear Is bytes whole rest fraction behind f nulls i j h =
     let m = minus_of bytes in
@@ -80,43 +96,61 @@ exponent_clear Is bytes whole rest fraction behind f nulls i j h =
       by a whole b c.letter c.sign,
     ) in
     clear_at Is [] (a ++ (whole ++ (b ++ t))) c.rest null_text bytes f IsUtf8-nil (word_utf8 null_text refl)
-    (minus_is bytes ∙ ap (λ (x : List ℕ). cond m.0 (45 ∷ []) [] ++ x) (int.spelled ∙ ap (λ (x : List ℕ). whole ++ x) (frac.spelled ∙ ap (λ (x : List ℕ). fraction_text fraction ++ x) c.spelled))
+    (minus_is bytes ∙ ap (λ (x : List ℕ). cond m.0 (45 ∷ []) [] ++ x)
+    (int.spelled ∙ ap (λ (x : List ℕ). whole ++ x)
+    (frac.spelled ∙ ap (λ (x : List ℕ). fraction_text fraction ++ x) c.spelled))
     ∙ regroup4 a whole b c.letter c.sign c.rest)
     c.fails
     (part_of_number (a ++ (whole ++ (b ++ t))) (48 ∷ []) is
     (minus_run 0 m.0 whole (b ++ t) [] int.is
     ∙ int_run whole (b ++ t) (point ∷ letter ∷ []) int.is (inr (fraction_no_digit fraction t no_digit))
-    ∙ fraction_run fraction t (letter ∷ []) frac.digits_all (fraction_ends fraction t no_digit (letter_no_point c.letter c.is_letter))
+    ∙ fraction_run fraction t (letter ∷ []) frac.digits_all
+    (fraction_ends fraction t no_digit (letter_no_point c.letter c.is_letter))
     ∙ taken letter c.letter (due_sign ∷ []) c.sign [] (rw c.is_letter refl)
     ∙ sign_missing c.sign c.is_sign))
     (nulls 32 refl)
   where
-    regroup4 : (a b c : List ℕ) (d : ℕ) (e g : List ℕ) → a ++ (b ++ (c ++ d ∷ (e ++ g))) ≡ (a ++ (b ++ (c ++ d ∷ e))) ++ g
+    regroup4 : (a b c : List ℕ) (d : ℕ) (e g : List ℕ) →
+        a ++ (b ++ (c ++ d ∷ (e ++ g))) ≡ (a ++ (b ++ (c ++ d ∷ e))) ++ g
     regroup4 a b c d e g = simp append_assoc
 
-    by : (a b c : List ℕ) (d : ℕ) (e : List ℕ) → (a ++ (b ++ (c ++ d ∷ e))) ++ (48 ∷ []) ≡ a ++ b ++ c ++ (d ∷ e ++ 48 ∷ [])
+    by : (a b c : List ℕ) (d : ℕ) (e : List ℕ) →
+        (a ++ (b ++ (c ++ d ∷ e))) ++ (48 ∷ []) ≡ a ++ b ++ c ++ (d ∷ e ++ 48 ∷ [])
     by a b c d e = simp append_assoc
 
-range_clear : (Is : List ℕ → Type 0) (bytes whole rest fraction behind : List ℕ) (down : Bool) (exponent last : List ℕ) (f : Fault) → Nulls Is →
-    int_at (minus_of bytes).1 ≡ Ok (whole, rest) → fraction_at rest ≡ Ok (fraction, behind) → exponent_at behind ≡ Ok ((down, exponent), last) →
+range_clear : (Is : List ℕ → Type 0) (bytes whole rest fraction behind : List ℕ) (down : Bool) (exponent last : List ℕ)
+    (f : Fault) → Nulls Is →
+    int_at (minus_of bytes).1 ≡ Ok (whole, rest) → fraction_at rest ≡ Ok (fraction, behind) →
+    exponent_at behind ≡ Ok ((down, exponent), last) →
     worth (minus_of bytes).0 whole fraction down exponent ≡ None → fault.Number (length bytes) ≡ f → Clear Is bytes f
 range_clear Is bytes whole rest fraction behind down exponent last f nulls i j k w e =
     let n = literally bytes whole rest fraction behind down exponent last i j k in
     let here = number_here bytes last (subst (λ (o : Option ℤ). Literally bytes o last) w n) in
     let says : Says (fault.Number (length bytes)) at_value bytes = (refl, here) in
-    clear_value Is bytes f nulls (ap (λ (g : Fault). left_of g) (sym e)) (subst (λ (g : Fault). Says g at_value bytes) e says)
+    clear_value Is bytes f nulls (ap (λ (g : Fault). left_of g) (sym e))
+    (subst (λ (g : Fault). Says g at_value bytes) e says)
 
-pub number_clear : (Is : List ℕ → Type 0) (bytes : List ℕ) (f : Fault) → Nulls Is → lead_of bytes ≡ lead.Number → number_at bytes ≡ Err f →
+pub number_clear : (Is : List ℕ → Type 0) (bytes : List ℕ) (f : Fault) → Nulls Is → lead_of bytes ≡ lead.Number →
+    number_at bytes ≡ Err f →
     Clear Is bytes f
 unfolding number_at
 number_clear Is bytes f nulls n h =
     let m = minus_of bytes in
-    either_failed {B = ℤ × List ℕ} (int_at m.1) (λ whole. fraction_at whole.1 >>= λ fraction. exponent_at fraction.1 >>= λ exponent. or_fault (fault.Number (length bytes)) (worth m.0 whole.0 fraction.0 exponent.0.0 exponent.0.1) >>= λ n. Ok (n, exponent.1)) f (Clear Is bytes f)
+    either_failed {B = ℤ × List ℕ} (int_at m.1)
+    (λ whole. fraction_at whole.1 >>= λ fraction. exponent_at fraction.1 >>= λ exponent. or_fault
+    (fault.Number (length bytes)) (worth m.0 whole.0 fraction.0 exponent.0.0 exponent.0.1) >>= λ n.
+    Ok (n, exponent.1)) f (Clear Is bytes f)
     (λ e. int_clear Is bytes f nulls n e)
-    (λ w i g. either_failed {B = ℤ × List ℕ} (fraction_at w.1) (λ fraction. exponent_at fraction.1 >>= λ exponent. or_fault (fault.Number (length bytes)) (worth m.0 w.0 fraction.0 exponent.0.0 exponent.0.1) >>= λ n. Ok (n, exponent.1)) f (Clear Is bytes f)
+    (λ w i g. either_failed {B = ℤ × List ℕ} (fraction_at w.1)
+    (λ fraction. exponent_at fraction.1 >>= λ exponent. or_fault (fault.Number (length bytes))
+    (worth m.0 w.0 fraction.0 exponent.0.0 exponent.0.1) >>= λ n. Ok (n, exponent.1)) f (Clear Is bytes f)
     (λ e. fraction_clear Is bytes w.0 w.1 f nulls i e)
-    (λ r j k. either_failed {B = ℤ × List ℕ} (exponent_at r.1) (λ exponent. or_fault (fault.Number (length bytes)) (worth m.0 w.0 r.0 exponent.0.0 exponent.0.1) >>= λ n. Ok (n, exponent.1)) f (Clear Is bytes f)
+    (λ r j k. either_failed {B = ℤ × List ℕ} (exponent_at r.1)
+    (λ exponent. or_fault (fault.Number (length bytes)) (worth m.0 w.0 r.0 exponent.0.0 exponent.0.1) >>= λ n.
+    Ok (n, exponent.1)) f (Clear Is bytes f)
     (λ e. exponent_clear Is bytes w.0 w.1 r.0 r.1 f nulls i j e)
-    (λ x l o. either_failed {B = ℤ × List ℕ} (or_fault (fault.Number (length bytes)) (worth m.0 w.0 r.0 x.0.0 x.0.1)) (λ n. Ok (n, x.1)) f (Clear Is bytes f)
-    (λ e. let p = or_fault_err (fault.Number (length bytes)) (worth m.0 w.0 r.0 x.0.0 x.0.1) f e in range_clear Is bytes w.0 w.1 r.0 r.1 x.0.0 x.0.1 x.1 f nulls i j l p.1 p.0)
+    (λ x l o. either_failed {B = ℤ × List ℕ} (or_fault (fault.Number (length bytes)) (worth m.0 w.0 r.0 x.0.0 x.0.1))
+    (λ n. Ok (n, x.1)) f (Clear Is bytes f)
+    (λ e. let p = or_fault_err (fault.Number (length bytes)) (worth m.0 w.0 r.0 x.0.0 x.0.1) f e in range_clear Is bytes
+    w.0 w.1 r.0 r.1 x.0.0 x.0.1 x.1 f nulls i j l p.1 p.0)
     (λ v e never. absurd (ok_no_err (v, x.1) f never)) o) k) g) h

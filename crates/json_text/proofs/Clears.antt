@@ -54,11 +54,13 @@ pub record Clear (IsText : List ℕ → Type 0) (bytes : List ℕ) (f : Fault) :
   pub unfinished : Tail spot tail
   pub says : Says f spot rest
 
-regroup : (before head next more behind : List ℕ) → before ++ ((head ++ (next ++ more)) ++ behind) ≡ (before ++ head) ++ (next ++ (more ++ behind))
+regroup : (before head next more behind : List ℕ) →
+    before ++ ((head ++ (next ++ more)) ++ behind) ≡ (before ++ head) ++ (next ++ (more ++ behind))
 regroup before head next more behind = simp append_assoc
 
 -- the whole of which a part fails
-pub clear_in : (IsPart IsText : List ℕ → Type 0) (before behind bytes inner : List ℕ) (f : Fault) → IsUtf8 before → IsUtf8 behind → bytes ≡ before ++ inner →
+pub clear_in : (IsPart IsText : List ℕ → Type 0) (before behind bytes inner : List ℕ) (f : Fault) → IsUtf8 before →
+    IsUtf8 behind → bytes ≡ before ++ inner →
     ((text : List ℕ) → IsPart text → IsText (before ++ (text ++ behind))) → Clear IsPart inner f → Clear IsText bytes f
 clear_in IsPart IsText before behind bytes inner f valid completed e whole c = record {
   spot = c.spot;
@@ -68,7 +70,8 @@ clear_in IsPart IsText before behind bytes inner f valid completed e whole c = r
   more = c.more ++ behind;
   spelled = e ∙ ap (λ (x : List ℕ). before ++ x) c.spelled ∙ sym (append_assoc before c.head (c.tail ++ c.rest));
   left = c.left;
-  is = λ next n. subst IsText (regroup before c.head next c.more behind) (whole (c.head ++ (next ++ c.more)) (c.is next n));
+  is = λ next n. subst IsText (regroup before c.head next c.more behind)
+      (whole (c.head ++ (next ++ c.more)) (c.is next n));
   valid = IsUtf8-append before c.head valid c.valid;
   completed = IsUtf8-append c.more behind c.completed completed;
   unfinished = c.unfinished;
@@ -76,7 +79,8 @@ clear_in IsPart IsText before behind bytes inner f valid completed e whole c = r
 }
 
 -- what is less is told too
-pub clear_as : (IsPart IsText : List ℕ → Type 0) (bytes : List ℕ) (f : Fault) → ((text : List ℕ) → IsPart text → IsText text) →
+pub clear_as : (IsPart IsText : List ℕ → Type 0) (bytes : List ℕ) (f : Fault) →
+    ((text : List ℕ) → IsPart text → IsText text) →
     Clear IsPart bytes f → Clear IsText bytes f
 clear_as IsPart IsText bytes f to c = record {
   spot = c.spot;
@@ -94,12 +98,14 @@ clear_as IsPart IsText bytes f to c = record {
 }
 
 unexpected_by : (bytes : List ℕ) (t : Bool) → ((utf8_valid_len bytes == 0) && not (length bytes == 0)) ≡ t →
-    (left_of (cond t (fault.Utf8 (length bytes)) (fault.Syntax (length bytes))) ≡ length bytes) × Says (cond t (fault.Utf8 (length bytes)) (fault.Syntax (length bytes))) anywhere bytes
+    (left_of (cond t (fault.Utf8 (length bytes)) (fault.Syntax (length bytes))) ≡ length bytes) × Says
+    (cond t (fault.Utf8 (length bytes)) (fault.Syntax (length bytes))) anywhere bytes
 unexpected_by bytes true h = (refl, inl (no_character bytes h))
 unexpected_by bytes false h = (refl, tt)
 
 -- the bytes can't go on so
-pub clear_at : (IsText : List ℕ → Type 0) (head tail rest more bytes : List ℕ) (f : Fault) → IsUtf8 head → IsUtf8 more → bytes ≡ head ++ (tail ++ rest) →
+pub clear_at : (IsText : List ℕ → Type 0) (head tail rest more bytes : List ℕ) (f : Fault) → IsUtf8 head → IsUtf8 more →
+    bytes ≡ head ++ (tail ++ rest) →
     unexpected rest ≡ f → IsUnfinished tail → IsText (head ++ 32 ∷ more) → Clear IsText bytes f
 clear_at IsText head tail rest more bytes f valid completed spelled e unfinished is =
     let u = unexpected_by rest ((utf8_valid_len rest == 0) && not (length rest == 0)) refl in
@@ -140,11 +146,13 @@ pub nothing : IsUnfinished []
 nothing = ((null_text, inl refl), no_token)
 
 -- what begins as a value and isn't taken as one
-pub part_of_value : (tail : List ℕ) → Begins IsToken tail → (IsEscape tail → ⊥) → accepts tail (value 0 ∷ []) ≡ false → IsUnfinished tail
+pub part_of_value : (tail : List ℕ) → Begins IsToken tail → (IsEscape tail → ⊥) → accepts tail (value 0 ∷ []) ≡ false →
+    IsUnfinished tail
 part_of_value tail begins other e = (begins, never)
   where
     yes : accepts (tail ++ []) (value 0 ∷ []) ≡ true → ⊥
-    yes h = let both : true ≡ false = sym h ∙ ap (λ (x : List ℕ). accepts x (value 0 ∷ [])) (append-nil tail) ∙ e in absurd cc
+    yes h = let both : true ≡ false = sym h ∙ ap (λ (x : List ℕ). accepts x (value 0 ∷ [])) (append-nil tail) ∙ e in
+        absurd cc
 
     never : IsToken tail → ⊥
     never (inl e) = yes (plain_run 0 tail [] [] (inl e) (inl refl) ∙ nothing_due)
@@ -153,7 +161,8 @@ part_of_value tail begins other e = (begins, never)
     never (inr (inr (inr (inl is)))) = yes (plain_run 0 tail [] [] (inr (inr (inr (inl is)))) (inl refl) ∙ nothing_due)
     never (inr (inr (inr (inr is)))) = other is
 
-pub part_of_number : (tail more : List ℕ) → IsNumeral (tail ++ more) → accepts tail (value 0 ∷ []) ≡ false → IsUnfinished tail
+pub part_of_number : (tail more : List ℕ) → IsNumeral (tail ++ more) → accepts tail (value 0 ∷ []) ≡ false →
+    IsUnfinished tail
 part_of_number tail more is e = part_of_value tail (more, inr (inr (inr (inl is)))) other e
   where
     other : IsEscape tail → ⊥
@@ -163,7 +172,8 @@ part_of_number tail more is e = part_of_value tail (more, inr (inr (inr (inl is)
         absurd cc
 
 -- what begins as an escape and is none
-pub part_of_escape : (tail : List ℕ) → Begins IsEscape (92 ∷ tail) → (IsEscape (92 ∷ tail) → ⊥) → IsUnfinished (92 ∷ tail)
+pub part_of_escape : (tail : List ℕ) → Begins IsEscape (92 ∷ tail) → (IsEscape (92 ∷ tail) → ⊥) →
+    IsUnfinished (92 ∷ tail)
 part_of_escape tail (more, is) none = ((more, inr (inr (inr (inr is)))), never)
   where
     never : IsToken (92 ∷ tail) → ⊥
@@ -180,7 +190,8 @@ abbrev pub Nulls : (List ℕ → Type 0) → Type 0
 Nulls Is = (b : ℕ) → is_white b ≡ true → Is (b ∷ null_text)
 
 -- a fault of the value that begins here
-pub clear_value : (Is : List ℕ → Type 0) (bytes : List ℕ) (f : Fault) → Nulls Is → left_of f ≡ length bytes → Says f at_value bytes → Clear Is bytes f
+pub clear_value : (Is : List ℕ → Type 0) (bytes : List ℕ) (f : Fault) → Nulls Is → left_of f ≡ length bytes →
+    Says f at_value bytes → Clear Is bytes f
 clear_value Is bytes f nulls left says = record {
   spot = at_value;
   head = [];

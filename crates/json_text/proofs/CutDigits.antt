@@ -15,14 +15,16 @@ use Rattle.json_text.proofs.Machine.{Due, int, digit, sign as due_sign, refuses,
 use Rattle.json_text.proofs.Cuts.{Stuck, Bars, bars_end, bars_byte, failed, err_same}
 
 digits_err_by : (bytes : List ℕ) (n : ℕ) (f : Fault) (t : Bool) → (n == 0) ≡ t →
-    ◌≡◌ {A = Read (List ℕ)} (cond t (Err (unexpected bytes)) (Ok (take n bytes, drop n bytes))) (Err f) → (unexpected bytes ≡ f) × (n ≡ 0)
+    ◌≡◌ {A = Read (List ℕ)} (cond t (Err (unexpected bytes)) (Ok (take n bytes, drop n bytes))) (Err f) →
+    (unexpected bytes ≡ f) × (n ≡ 0)
 digits_err_by bytes n f true e h = (err_same {A = List ℕ × List ℕ} (unexpected bytes) f h, eqb-true n 0 e)
 digits_err_by bytes n f false e h = absurd cc
 
 no_digits : (bytes : List ℕ) → prefix_len is_digit bytes ≡ 0 → stops is_digit bytes ≡ true
 no_digits bytes e = subst (λ (n : ℕ). stops is_digit (drop n bytes) ≡ true) e (prefix_stops is_digit bytes)
 
-digits_err : (bytes : List ℕ) (f : Fault) → digits_at bytes ≡ Err f → (unexpected bytes ≡ f) × (stops is_digit bytes ≡ true)
+digits_err : (bytes : List ℕ) (f : Fault) → digits_at bytes ≡ Err f →
+    (unexpected bytes ≡ f) × (stops is_digit bytes ≡ true)
 unfolding digits_at
 digits_err bytes f h =
     let p = digits_err_by bytes (prefix_len is_digit bytes) f (prefix_len is_digit bytes == 0) refl h in
@@ -39,12 +41,14 @@ int_by : (b : ℕ) (bytes : List ℕ) (f : Fault) (t : Bool) → (b == 48) ≡ t
     ◌≡◌ {A = Read (List ℕ)} (cond t (Ok (b ∷ [], bytes)) (digits_at (b ∷ bytes))) (Err f) →
     (unexpected (b ∷ bytes) ≡ f) × (is_digit b ≡ false) × (react int b ≡ refuses)
 int_by b bytes f true e h = absurd cc
-int_by b bytes f false e h = let p = digits_err (b ∷ bytes) f h in let d = not-true (is_digit b) p.1 in (p.0, d, int_refuses b e d)
+int_by b bytes f false e h = let p = digits_err (b ∷ bytes) f h in let d = not-true (is_digit b) p.1 in
+    (p.0, d, int_refuses b e d)
 
 fraction_by : (b : ℕ) (bytes : List ℕ) (f : Fault) (t : Bool) → (b == 46) ≡ t →
     ◌≡◌ {A = Read (List ℕ)} (cond t (digits_at bytes) (Ok ([], b ∷ bytes))) (Err f) →
     (rest : List ℕ) × (b ∷ bytes ≡ 46 ∷ rest) × (unexpected rest ≡ f) × (stops is_digit rest ≡ true)
-fraction_by b bytes f true e h = let p = digits_err bytes f h in (bytes, ap (λ (x : ℕ). x ∷ bytes) (eqb-true b 46 e), p.0, p.1)
+fraction_by b bytes f true e h = let p = digits_err bytes f h in
+    (bytes, ap (λ (x : ℕ). x ∷ bytes) (eqb-true b 46 e), p.0, p.1)
 fraction_by b bytes f false e h = absurd cc
 
 pub fraction_err : (bytes : List ℕ) (f : Fault) → fraction_at bytes ≡ Err f →
@@ -71,9 +75,11 @@ pub record SignCut (bytes : List ℕ) : Type 0 where
 
 one_sign : (b : ℕ) (bytes : List ℕ) (stack : List Due) → ((b == 43) || (b == 45)) ≡ true → stops is_digit bytes ≡ true →
     Stuck (due_sign ∷ stack) (b ∷ []) bytes
-one_sign b bytes stack h s others a = taken due_sign b (digit ∷ []) others stack (rw h refl) ∙ bars_digit bytes stack s others a
+one_sign b bytes stack h s others a = taken due_sign b (digit ∷ []) others stack (rw h refl)
+    ∙ bars_digit bytes stack s others a
 
-with_sign : (b : ℕ) (bytes : List ℕ) (minus : Bool) → sign_of (b ∷ bytes) ≡ (minus, bytes) → ((b == 43) || (b == 45)) ≡ true →
+with_sign : (b : ℕ) (bytes : List ℕ) (minus : Bool) → sign_of (b ∷ bytes) ≡ (minus, bytes) →
+    ((b == 43) || (b == 45)) ≡ true →
     stops is_digit (sign_of (b ∷ bytes)).1 ≡ true → SignCut (b ∷ bytes)
 with_sign b bytes minus same h s =
     let rest : (sign_of (b ∷ bytes)).1 ≡ bytes = ap (λ (x : Bool × List ℕ). x.1) same in
@@ -83,7 +89,8 @@ with_sign b bytes minus same h s =
       is = h;
       spelled = ap (λ (x : List ℕ). b ∷ x) (sym rest);
       valid = sign_utf8 (b ∷ []) h;
-      stuck = subst (λ (x : List ℕ). (stack : List Due) → Stuck (due_sign ∷ stack) (b ∷ []) x) (sym rest) (λ stack. one_sign b bytes stack h stop);
+      stuck = subst (λ (x : List ℕ). (stack : List Due) → Stuck (due_sign ∷ stack) (b ∷ []) x) (sym rest)
+          (λ stack. one_sign b bytes stack h stop);
     }
 
 or_right : (x y : Bool) → y ≡ true → (x || y) ≡ true
@@ -96,7 +103,8 @@ or_left x y h = rw h refl
 neither : (b : ℕ) → ((b == 43) || (b == 45)) ≡ false → is_digit b ≡ false → react due_sign b ≡ refuses
 neither b n d = rw (n, d) refl
 
-sign_by : (b : ℕ) (bytes : List ℕ) (m p : Bool) → (b == 45) ≡ m → (b == 43) ≡ p → stops is_digit (sign_of (b ∷ bytes)).1 ≡ true → SignCut (b ∷ bytes)
+sign_by : (b : ℕ) (bytes : List ℕ) (m p : Bool) → (b == 45) ≡ m →
+    (b == 43) ≡ p → stops is_digit (sign_of (b ∷ bytes)).1 ≡ true → SignCut (b ∷ bytes)
 sign_by b bytes true p e g s = with_sign b bytes true (rw e refl) (or_right (b == 43) (b == 45) e) s
 sign_by b bytes false true e g s = with_sign b bytes false (rw (e, g) refl) (or_left (b == 43) (b == 45) g) s
 sign_by b bytes false false e g s =
@@ -109,11 +117,19 @@ sign_by b bytes false false e g s =
       is = refl;
       spelled = sym rest;
       valid = IsUtf8-nil;
-      stuck = subst (λ (x : List ℕ). (stack : List Due) → Stuck (due_sign ∷ stack) [] x) (sym rest) (λ stack. bars_byte due_sign b bytes stack refusal);
+      stuck = subst (λ (x : List ℕ). (stack : List Due) → Stuck (due_sign ∷ stack) [] x) (sym rest)
+          (λ stack. bars_byte due_sign b bytes stack refusal);
     }
 
 sign_cut : (bytes : List ℕ) → stops is_digit (sign_of bytes).1 ≡ true → SignCut bytes
-sign_cut [] s = record { sign = []; is = refl; spelled = refl; valid = IsUtf8-nil; stuck = λ stack. bars_end due_sign stack refl }
+sign_cut [] s = record {
+  sign = [];
+  is = refl;
+  spelled = refl;
+  valid = IsUtf8-nil;
+  stuck = λ stack. bars_end due_sign
+      stack refl;
+}
 sign_cut (b ∷ bytes) s = sign_by b bytes (b == 45) (b == 43) refl refl s
 
 pub record ExponentCut (bytes : List ℕ) (f : Fault) : Type 0 where
@@ -127,15 +143,29 @@ pub record ExponentCut (bytes : List ℕ) (f : Fault) : Type 0 where
   pub stuck : (stack : List Due) → Stuck (due_sign ∷ stack) sign rest
 
 exponent_by : (b : ℕ) (bytes : List ℕ) (f : Fault) (t : Bool) → is_exponent_letter b ≡ t →
-    ◌≡◌ {A = Read (Bool × List ℕ)} (cond t (digits_at (sign_of bytes).1 >>= λ x. Ok (((sign_of bytes).0, x.0), x.1)) (Ok ((false, []), b ∷ bytes))) (Err f) → ExponentCut (b ∷ bytes) f
-exponent_by b bytes f true e h = by (failed {B = (Bool × List ℕ) × List ℕ} (digits_at (sign_of bytes).1) (λ x. Ok (((sign_of bytes).0, x.0), x.1)) f h)
+    ◌≡◌ {A = Read (Bool × List ℕ)} (cond t (digits_at (sign_of bytes).1 >>= λ x. Ok (((sign_of bytes).0, x.0), x.1))
+    (Ok ((false, []), b ∷ bytes))) (Err f) → ExponentCut (b ∷ bytes) f
+exponent_by b bytes f true e h =
+    by (failed {B = (Bool × List ℕ) × List ℕ} (digits_at (sign_of bytes).1) (λ x. Ok (((sign_of bytes).0, x.0), x.1)) f
+    h)
   where
-    by : ((digits_at (sign_of bytes).1 ≡ Err f) ⊎ ((x : List ℕ × List ℕ) × (digits_at (sign_of bytes).1 ≡ Ok x) × (◌≡◌ {A = Read (Bool × List ℕ)} (Ok (((sign_of bytes).0, x.0), x.1)) (Err f)))) →
+    by : ((digits_at (sign_of bytes).1 ≡ Err f) ⊎ ((x : List ℕ × List ℕ) × (digits_at (sign_of bytes).1 ≡ Ok x) × (◌≡◌
+        {A = Read (Bool × List ℕ)} (Ok (((sign_of bytes).0, x.0), x.1)) (Err f)))) →
         ExponentCut (b ∷ bytes) f
     by (inl g) =
         let d = digits_err (sign_of bytes).1 f g in
         let c = sign_cut bytes d.1 in
-        record { letter = b; sign = c.sign; rest = (sign_of bytes).1; is_letter = e; is_sign = c.is; spelled = ap (λ (x : List ℕ). b ∷ x) c.spelled; fails = d.0; stuck = c.stuck }
+        record {
+          letter = b;
+          sign = c.sign;
+          rest = (sign_of bytes).1;
+          is_letter = e;
+          is_sign = c.is;
+          spelled = ap
+              (λ (x : List ℕ). b ∷ x) c.spelled;
+          fails = d.0;
+          stuck = c.stuck;
+        }
     by (inr (x, g, never)) = absurd cc
 exponent_by b bytes f false e h = absurd cc
 

@@ -50,11 +50,16 @@ int_cut : (room : ℕ) (bytes : List ℕ) (f : Fault) → lead_of bytes ≡ lead
     Cut IsNumeral a_value room bytes f
 int_cut room bytes f n h =
     let (rest, spelled, why, bars) = minus_here bytes f n h in
-    behind_here IsNumeral a_value room (45 ∷ []) (48 ∷ []) bytes rest f (word_utf8 (45 ∷ []) refl) spelled why
-    (record { minus = true; whole = 48 ∷ []; fraction = []; letter = 101; sign = []; exponent = [] }, record { whole = refl; fraction = refl; letter = refl; sign = refl; exponent = refl }, refl)
-    (λ r le stack others a. taken (value r) 45 (int ∷ point ∷ letter ∷ []) others stack refl ∙ bars (point ∷ letter ∷ stack) others a)
+    behind_here IsNumeral a_value room (45 ∷ []) (48 ∷ []) bytes rest f (word_utf8 (45 ∷ []) refl) spelled why (
+      record { minus = true; whole = 48 ∷ []; fraction = []; letter = 101; sign = []; exponent = [] },
+      record { whole = refl; fraction = refl; letter = refl; sign = refl; exponent = refl },
+      refl,
+    )
+    (λ r le stack others a. taken (value r) 45 (int ∷ point ∷ letter ∷ []) others stack refl
+    ∙ bars (point ∷ letter ∷ stack) others a)
 
-fraction_cut : (room : ℕ) (bytes whole rest : List ℕ) (f : Fault) → int_at (minus_of bytes).1 ≡ Ok (whole, rest) → fraction_at rest ≡ Err f →
+fraction_cut : (room : ℕ) (bytes whole rest : List ℕ) (f : Fault) → int_at (minus_of bytes).1 ≡ Ok (whole, rest) →
+    fraction_at rest ≡ Err f →
     Cut IsNumeral a_value room bytes f
 unfolding IntEnds
 fraction_cut room bytes whole rest f i h =
@@ -64,10 +69,15 @@ fraction_cut room bytes whole rest f i h =
     let (more, spelled, why, stop) = fraction_err rest f h in
     let before = a ++ (whole ++ 46 ∷ []) in
     behind_here IsNumeral a_value room before (48 ∷ []) bytes more f
-    (IsUtf8-append a (whole ++ 46 ∷ []) (minus_utf8 m.0) (IsUtf8-append whole (46 ∷ []) (int_utf8 whole int.is) (word_utf8 (46 ∷ []) refl)))
-    (minus_is bytes ∙ ap (λ (x : List ℕ). cond m.0 (45 ∷ []) [] ++ x) (int.spelled ∙ ap (λ (x : List ℕ). whole ++ x) spelled) ∙ regroup3 (cond m.0 (45 ∷ []) []) whole 46 more)
-    why
-    (record { minus = m.0; whole = whole; fraction = 48 ∷ []; letter = 101; sign = []; exponent = [] }, record { whole = int.is; fraction = refl; letter = refl; sign = refl; exponent = refl }, by (cond m.0 (45 ∷ []) []) whole)
+    (IsUtf8-append a (whole ++ 46 ∷ []) (minus_utf8 m.0)
+    (IsUtf8-append whole (46 ∷ []) (int_utf8 whole int.is) (word_utf8 (46 ∷ []) refl)))
+    (minus_is bytes ∙ ap (λ (x : List ℕ). cond m.0 (45 ∷ []) [] ++ x)
+    (int.spelled ∙ ap (λ (x : List ℕ). whole ++ x) spelled) ∙ regroup3 (cond m.0 (45 ∷ []) []) whole 46 more)
+    why (
+      record { minus = m.0; whole = whole; fraction = 48 ∷ []; letter = 101; sign = []; exponent = [] },
+      record { whole = int.is; fraction = refl; letter = refl; sign = refl; exponent = refl },
+      by (cond m.0 (45 ∷ []) []) whole,
+    )
     (λ r le stack others alike.
     ap (λ (x : List ℕ). accepts x (value r ∷ stack)) (sym (regroup3 a whole 46 others))
     ∙ minus_run r m.0 whole (46 ∷ others) stack int.is
@@ -81,7 +91,8 @@ fraction_cut room bytes whole rest f i h =
     by : (a b : List ℕ) → (a ++ (b ++ 46 ∷ [])) ++ (48 ∷ []) ≡ a ++ b ++ (46 ∷ 48 ∷ []) ++ []
     by a b = simp (append_assoc, append-nil)
 
-exponent_cut : (room : ℕ) (bytes whole rest fraction behind : List ℕ) (f : Fault) → int_at (minus_of bytes).1 ≡ Ok (whole, rest) →
+exponent_cut : (room : ℕ) (bytes whole rest fraction behind : List ℕ) (f : Fault) →
+    int_at (minus_of bytes).1 ≡ Ok (whole, rest) →
     fraction_at rest ≡ Ok (fraction, behind) → exponent_at behind ≡ Err f → Cut IsNumeral a_value room bytes f
 unfolding IntEnds
 exponent_cut room bytes whole rest fraction behind f i j h =
@@ -94,8 +105,11 @@ exponent_cut room bytes whole rest fraction behind f i j h =
     behind_here IsNumeral a_value room (a ++ (whole ++ (b ++ c.letter ∷ c.sign))) (48 ∷ []) bytes c.rest f
     (IsUtf8-append a (whole ++ (b ++ c.letter ∷ c.sign)) (minus_utf8 m.0)
     (IsUtf8-append whole (b ++ c.letter ∷ c.sign) (int_utf8 whole int.is)
-    (IsUtf8-append b (c.letter ∷ c.sign) (fraction_utf8 fraction frac.digits_all) (cons_utf8 c.letter c.sign (letter_small c.letter c.is_letter) (sign_utf8 c.sign c.is_sign)))))
-    (minus_is bytes ∙ ap (λ (x : List ℕ). cond m.0 (45 ∷ []) [] ++ x) (int.spelled ∙ ap (λ (x : List ℕ). whole ++ x) (frac.spelled ∙ ap (λ (x : List ℕ). fraction_text fraction ++ x) c.spelled))
+    (IsUtf8-append b (c.letter ∷ c.sign) (fraction_utf8 fraction frac.digits_all)
+    (cons_utf8 c.letter c.sign (letter_small c.letter c.is_letter) (sign_utf8 c.sign c.is_sign)))))
+    (minus_is bytes ∙ ap (λ (x : List ℕ). cond m.0 (45 ∷ []) [] ++ x)
+    (int.spelled ∙ ap (λ (x : List ℕ). whole ++ x)
+    (frac.spelled ∙ ap (λ (x : List ℕ). fraction_text fraction ++ x) c.spelled))
     ∙ regroup4 (cond m.0 (45 ∷ []) []) whole (fraction_text fraction) c.letter c.sign c.rest)
     c.fails (
       record { minus = m.0; whole = whole; fraction = fraction; letter = c.letter; sign = c.sign; exponent = 48 ∷ [] },
@@ -108,18 +122,22 @@ exponent_cut room bytes whole rest fraction behind f i j h =
     ap (λ (x : List ℕ). accepts x (value r ∷ stack)) (sym (regroup4 a whole b c.letter c.sign others))
     ∙ minus_run r m.0 whole (b ++ tail) stack int.is
     ∙ int_run whole (b ++ tail) (point ∷ letter ∷ stack) int.is (inr (fraction_no_digit fraction tail no_digit))
-    ∙ fraction_run fraction tail (letter ∷ stack) frac.digits_all (fraction_ends fraction tail no_digit (letter_no_point c.letter c.is_letter))
+    ∙ fraction_run fraction tail (letter ∷ stack) frac.digits_all
+    (fraction_ends fraction tail no_digit (letter_no_point c.letter c.is_letter))
     ∙ taken letter c.letter (due_sign ∷ []) (c.sign ++ others) stack (rw c.is_letter refl)
     ∙ c.stuck stack others alike)
   where
-    regroup4 : (a b c : List ℕ) (d : ℕ) (e g : List ℕ) → a ++ (b ++ (c ++ d ∷ (e ++ g))) ≡ (a ++ (b ++ (c ++ d ∷ e))) ++ g
+    regroup4 : (a b c : List ℕ) (d : ℕ) (e g : List ℕ) →
+        a ++ (b ++ (c ++ d ∷ (e ++ g))) ≡ (a ++ (b ++ (c ++ d ∷ e))) ++ g
     regroup4 a b c d e g = simp append_assoc
 
-    by : (a b c : List ℕ) (d : ℕ) (e : List ℕ) → (a ++ (b ++ (c ++ d ∷ e))) ++ (48 ∷ []) ≡ a ++ b ++ c ++ (d ∷ e ++ 48 ∷ [])
+    by : (a b c : List ℕ) (d : ℕ) (e : List ℕ) →
+        (a ++ (b ++ (c ++ d ∷ e))) ++ (48 ∷ []) ≡ a ++ b ++ c ++ (d ∷ e ++ 48 ∷ [])
     by a b c d e = simp append_assoc
 
 range_cut : (room : ℕ) (bytes whole rest fraction behind : List ℕ) (down : Bool) (exponent last : List ℕ) (f : Fault) →
-    int_at (minus_of bytes).1 ≡ Ok (whole, rest) → fraction_at rest ≡ Ok (fraction, behind) → exponent_at behind ≡ Ok ((down, exponent), last) →
+    int_at (minus_of bytes).1 ≡ Ok (whole, rest) → fraction_at rest ≡ Ok (fraction, behind) →
+    exponent_at behind ≡ Ok ((down, exponent), last) →
     fault.Number (length bytes) ≡ f → Cut IsNumeral a_value room bytes f
 range_cut room bytes whole rest fraction behind down exponent last f i j k e =
     let n = literally bytes whole rest fraction behind down exponent last i j k in
@@ -136,16 +154,27 @@ range_cut room bytes whole rest fraction behind down exponent last f i j k e =
       stuck = λ r k stack others a. absurd (subst (λ (g : Fault). Counts g room r) (sym e) k);
     }
 
-pub number_err : (room : ℕ) (bytes : List ℕ) (f : Fault) → lead_of bytes ≡ lead.Number → number_at bytes ≡ Err f → Cut IsNumeral a_value room bytes f
+pub number_err : (room : ℕ) (bytes : List ℕ) (f : Fault) → lead_of bytes ≡ lead.Number → number_at bytes ≡ Err f →
+    Cut IsNumeral a_value room bytes f
 unfolding number_at
 number_err room bytes f n h =
     let m = minus_of bytes in
-    either_failed {B = ℤ × List ℕ} (int_at m.1) (λ whole. fraction_at whole.1 >>= λ fraction. exponent_at fraction.1 >>= λ exponent. or_fault (fault.Number (length bytes)) (worth m.0 whole.0 fraction.0 exponent.0.0 exponent.0.1) >>= λ n. Ok (n, exponent.1)) f (Cut IsNumeral a_value room bytes f)
+    either_failed {B = ℤ × List ℕ} (int_at m.1)
+    (λ whole. fraction_at whole.1 >>= λ fraction. exponent_at fraction.1 >>= λ exponent. or_fault
+    (fault.Number (length bytes)) (worth m.0 whole.0 fraction.0 exponent.0.0 exponent.0.1) >>= λ n.
+    Ok (n, exponent.1)) f (Cut IsNumeral a_value room bytes f)
     (λ e. int_cut room bytes f n e)
-    (λ w i g. either_failed {B = ℤ × List ℕ} (fraction_at w.1) (λ fraction. exponent_at fraction.1 >>= λ exponent. or_fault (fault.Number (length bytes)) (worth m.0 w.0 fraction.0 exponent.0.0 exponent.0.1) >>= λ n. Ok (n, exponent.1)) f (Cut IsNumeral a_value room bytes f)
+    (λ w i g. either_failed {B = ℤ × List ℕ} (fraction_at w.1)
+    (λ fraction. exponent_at fraction.1 >>= λ exponent. or_fault (fault.Number (length bytes))
+    (worth m.0 w.0 fraction.0 exponent.0.0 exponent.0.1) >>= λ n. Ok (n, exponent.1))
+    f (Cut IsNumeral a_value room bytes f)
     (λ e. fraction_cut room bytes w.0 w.1 f i e)
-    (λ r j k. either_failed {B = ℤ × List ℕ} (exponent_at r.1) (λ exponent. or_fault (fault.Number (length bytes)) (worth m.0 w.0 r.0 exponent.0.0 exponent.0.1) >>= λ n. Ok (n, exponent.1)) f (Cut IsNumeral a_value room bytes f)
+    (λ r j k. either_failed {B = ℤ × List ℕ} (exponent_at r.1)
+    (λ exponent. or_fault (fault.Number (length bytes)) (worth m.0 w.0 r.0 exponent.0.0 exponent.0.1) >>= λ n.
+    Ok (n, exponent.1)) f (Cut IsNumeral a_value room bytes f)
     (λ e. exponent_cut room bytes w.0 w.1 r.0 r.1 f i j e)
-    (λ x l o. either_failed {B = ℤ × List ℕ} (or_fault (fault.Number (length bytes)) (worth m.0 w.0 r.0 x.0.0 x.0.1)) (λ n. Ok (n, x.1)) f (Cut IsNumeral a_value room bytes f)
-    (λ e. let p = or_fault_err (fault.Number (length bytes)) (worth m.0 w.0 r.0 x.0.0 x.0.1) f e in range_cut room bytes w.0 w.1 r.0 r.1 x.0.0 x.0.1 x.1 f i j l p.0)
+    (λ x l o. either_failed {B = ℤ × List ℕ} (or_fault (fault.Number (length bytes)) (worth m.0 w.0 r.0 x.0.0 x.0.1))
+    (λ n. Ok (n, x.1)) f (Cut IsNumeral a_value room bytes f)
+    (λ e. let p = or_fault_err (fault.Number (length bytes)) (worth m.0 w.0 r.0 x.0.0 x.0.1) f e in range_cut room bytes
+    w.0 w.1 r.0 r.1 x.0.0 x.0.1 x.1 f i j l p.0)
     (λ v e never. absurd (ok_no_err (v, x.1) f never)) o) k) g) h

@@ -8,9 +8,8 @@ use Rattle.json_text.specs.declared.fault.Fault.{Fault}
 use Rattle.json_text.specs.declared.lead.Lead.{Lead}
 use Rattle.json_text.specs.declared.lead.Lead.TheVariants as lead
 use Rattle.json_text.specs.Numbers.{literal_text}
-use Rattle.json_text.specs.Strings.{IsString}
-use Rattle.json_text.specs.Grammar.{is_white, IsWhite, Padded, Each, joined, Listed, Member, IsMember, null_text, IsScalar}
-use Rattle.json_text.specs.Faults.{IsQuoted, IsPair, Every, AreParts, IsPlainValue}
+use Rattle.json_text.specs.Grammar.{is_white, Padded, joined, null_text}
+use Rattle.json_text.specs.Faults.{Every, AreParts}
 use Rattle.json_text.specs.Reading.{Read, unexpected, strip, behind_white, repeated, lead_of, separator_at, unless_closed}
 use Rattle.json_text.proofs.Fronts.{whites, white_utf8, word_utf8}
 use Rattle.json_text.proofs.FoundParts.{Reads}
@@ -23,49 +22,13 @@ use Rattle.json_text.proofs.Cuts.{Alike, alike_in, alike_stops, counts_le, Bars,
 use Rattle.json_text.proofs.CutNumbers.{a_value}
 use Rattle.json_text.proofs.NumberEnds.{Stays}
 
--- ---- the weaker grammar
-
-pub numeral_from : (text : List ℕ) (v : Node) → IsScalar text v → IsPlainValue text
-numeral_from text v (inl (t, is)) = inl t
-numeral_from text v (inr (inl (t, is))) = inr (inl t)
-numeral_from text v (inr (inr (inl (t, is)))) = inr (inr (inl t))
-numeral_from text v (inr (inr (inr (inl (n, (l, ok, t, w), is))))) = inr (inr (inr (inl (l, ok, t))))
-numeral_from text v (inr (inr (inr (inr (t, (chars, are, e, w), is))))) = inr (inr (inr (inr (chars, are, e))))
-
-every_from : {V : Type 0} (IsPart : List ℕ → V → Type 0) (Is : List ℕ → Type 0) → ((part : List ℕ) (v : V) → IsPart part v → Is part) →
-    (parts : List (List ℕ)) (vs : List V) → Each IsPart parts vs → Every Is parts
-every_from {V = V} IsPart Is to [] [] h = tt
-every_from {V = V} IsPart Is to [] (v ∷ vs) h = absurd h
-every_from {V = V} IsPart Is to (part ∷ parts) [] h = absurd h
-every_from {V = V} IsPart Is to (part ∷ parts) (v ∷ vs) h = (to part v h.0, every_from IsPart Is to parts vs h.1)
-
-pub parts_from : {V : Type 0} (IsPart : List ℕ → V → Type 0) (Is : List ℕ → Type 0) → ((part : List ℕ) (v : V) → IsPart part v → Is part) →
-    (inner : List ℕ) (vs : List V) → Listed IsPart inner vs → AreParts Is inner
-parts_from {V = V} IsPart Is to inner [] h = inl h
-parts_from {V = V} IsPart Is to inner (v ∷ vs) ([], each, e) = absurd each
-parts_from {V = V} IsPart Is to inner (v ∷ vs) (part ∷ parts, each, e) = inr (part, parts, to part v each.0, every_from IsPart Is to parts vs each.1, e)
-
-pub padded_as : (P Q : List ℕ → Type 0) → ((text : List ℕ) → P text → Q text) → (bytes : List ℕ) → Padded P bytes → Padded Q bytes
-padded_as P Q to bytes p = record { before = p.before; text = p.text; behind = p.behind; white_before = p.white_before; white_behind = p.white_behind; is_text = to p.text p.is_text; spelled = p.spelled }
-
-pub quoted_from : (name text : List ℕ) → IsString text (Some name) → IsQuoted text
-quoted_from name text (chars, are, e, w) = (chars, are, e)
-
-pub pair_from : (Is : List ℕ → Type 0) (part : List ℕ) (m : Member) → IsMember (λ text v. Is text) part m → IsPair Is part
-pair_from Is part m (name, inner, is_name, is_inner, e) = (name, inner, padded_as (λ text. IsString text (Some m.0)) IsQuoted (quoted_from m.0) name is_name, is_inner, e)
-
--- white space before a value
-pub white_padded : (Is : List ℕ → Type 0) (run : List ℕ) → IsWhite run → (text : List ℕ) → Is text → Padded Is (run ++ text)
-white_padded Is run w text is = record { before = run; text = text; behind = []; white_before = w; white_behind = refl; is_text = is; spelled = sym (append-nil (run ++ text)) }
-
--- ---- what is known of a reading one level down
-
 pub record Spells (value_read : List ℕ → Read Node) (Is : List ℕ → Type 0) (room : ℕ) : Type 0 where
   pub null : Is null_text
   pub fails : (bytes : List ℕ) (f : Fault) → value_read bytes ≡ Err f → Cut Is a_value room bytes f
   pub reads : Reads value_read (λ text v. Is text)
   pub taken : (r : ℕ) → room ≤ r → Taken r Is
-  pub stays : (bytes : List ℕ) (v : Node) (rest : List ℕ) → value_read bytes ≡ Ok (v, rest) → lead_of bytes ≡ lead.Number → Stays bytes rest
+  pub stays : (bytes : List ℕ) (v : Node) (rest : List ℕ) → value_read bytes ≡ Ok (v, rest) →
+      lead_of bytes ≡ lead.Number → Stays bytes rest
 
 same_front : (front other rest : List ℕ) → front ++ rest ≡ other ++ rest → front ≡ other
 same_front front other rest e =
@@ -73,7 +36,8 @@ same_front front other rest e =
     let m = length-append other rest in
     let n : length (front ++ rest) ≡ length (other ++ rest) = ap (λ (x : List ℕ). length x) e in
     let same : length other ≡ length front = omega arith in
-    sym (take_at front rest (length front) refl) ∙ ap (λ (x : List ℕ). take (length front) x) e ∙ take_at other rest (length front) same
+    sym (take_at front rest (length front) refl) ∙ ap (λ (x : List ℕ). take (length front) x) e
+    ∙ take_at other rest (length front) same
 
 number_or : (l : Lead) → (l ≡ lead.Number) ⊎ (l ≡ lead.Number → ⊥)
 number_or lead.Quote = inr (λ z. cc)
@@ -87,19 +51,24 @@ number_or lead.Other = inr (λ z. cc)
 
 -- what is read as a value is taken as one, and what stands behind it isn't
 pub value_stays : (value_read : List ℕ → Read Node) (Is : List ℕ → Type 0) (room : ℕ) → Spells value_read Is room →
-    (bytes : List ℕ) (v : Node) (rest text : List ℕ) → value_read bytes ≡ Ok (v, rest) → Is text → bytes ≡ text ++ rest →
-    (r : ℕ) → room ≤ r → (stack : List Due) (others : List ℕ) → Alike rest others → accepts (text ++ others) (value r ∷ stack) ≡ accepts others stack
+    (bytes : List ℕ) (v : Node) (rest text : List ℕ) → value_read bytes ≡ Ok (v, rest) → Is text →
+    bytes ≡ text ++ rest →
+    (r : ℕ) → room ≤ r → (stack : List Due) (others : List ℕ) → Alike rest others →
+    accepts (text ++ others) (value r ∷ stack) ≡ accepts others stack
 value_stays value_read Is room s bytes v rest text e is spelled r le stack others a = by (number_or (lead_of bytes))
   where
-    by : (lead_of bytes ≡ lead.Number) ⊎ (lead_of bytes ≡ lead.Number → ⊥) → accepts (text ++ others) (value r ∷ stack) ≡ accepts others stack
+    by : (lead_of bytes ≡ lead.Number) ⊎ (lead_of bytes ≡ lead.Number → ⊥) →
+        accepts (text ++ others) (value r ∷ stack) ≡ accepts others stack
     by (inl n) =
         let st = s.stays bytes v rest e n in
         let same = same_front text (literal_text st.literal) rest (sym spelled ∙ st.spelled) in
-        ap (λ (x : List ℕ). accepts (x ++ others) (value r ∷ stack)) same ∙ literal_run r st.literal others stack st.is (st.ends others a)
+        ap (λ (x : List ℕ). accepts (x ++ others) (value r ∷ stack)) same ∙ literal_run r st.literal others stack
+        st.is (st.ends others a)
     by (inr other) =
         let t = s.taken r le in
         let o = t.opens text is in
-        let first : lead_of text ≡ lead_of bytes = ap (λ (x : List ℕ). lead_of x) o.is ∙ sym (ap (λ (x : List ℕ). lead_of x) (spelled ∙ ap (λ (x : List ℕ). x ++ rest) o.is)) in
+        let first : lead_of text ≡ lead_of bytes = ap (λ (x : List ℕ). lead_of x) o.is
+        ∙ sym (ap (λ (x : List ℕ). lead_of x) (spelled ∙ ap (λ (x : List ℕ). x ++ rest) o.is)) in
         t.runs text others stack is (inr (λ n. other (sym first ∙ n)))
 
 pub white_stops : (bytes : List ℕ) → stops is_white (behind_white bytes) ≡ true
@@ -111,11 +80,13 @@ pub record Between (Is : List ℕ → Type 0) (room : ℕ) (bytes behind : List 
   pub is : Padded Is text
   pub valid : IsUtf8 text
   pub spelled : bytes ≡ text ++ behind
-  pub runs : (r : ℕ) → room ≤ r → (head stack : List Due) → ((x : List ℕ) → Alike (behind_white bytes) x → accepts x head ≡ accepts x (value r ∷ white ∷ stack)) →
+  pub runs : (r : ℕ) → room ≤ r → (head stack : List Due) →
+      ((x : List ℕ) → Alike (behind_white bytes) x → accepts x head ≡ accepts x (value r ∷ white ∷ stack)) →
       (others : List ℕ) → Alike behind others → accepts (text ++ others) (white ∷ head) ≡ accepts others stack
 
 pub between : (value_read : List ℕ → Read Node) (Is : List ℕ → Type 0) (room : ℕ) → Spells value_read Is room →
-    (bytes : List ℕ) (v : Node) (rest : List ℕ) → value_read (behind_white bytes) ≡ Ok (v, rest) → Between Is room bytes (behind_white rest)
+    (bytes : List ℕ) (v : Node) (rest : List ℕ) → value_read (behind_white bytes) ≡ Ok (v, rest) →
+    Between Is room bytes (behind_white rest)
 unfolding Reads
 between value_read Is room s bytes v rest e =
     let w = whites bytes in
@@ -125,9 +96,19 @@ between value_read Is room s bytes v rest e =
     let f = s.reads z v rest e in
     record {
       text = w.white ++ f.text ++ u.white;
-      is = record { before = w.white; text = f.text; behind = u.white; white_before = w.is_white; white_behind = u.is_white; is_text = f.is; spelled = refl };
-      valid = IsUtf8-append (w.white ++ f.text) u.white (IsUtf8-append w.white f.text (white_utf8 w.white w.is_white) f.valid) (white_utf8 u.white u.is_white);
-      spelled = w.spelled ∙ ap (λ (x : List ℕ). w.white ++ x) (f.spelled ∙ ap (λ (x : List ℕ). f.text ++ x) u.spelled) ∙ regroup w.white f.text u.white end;
+      is = record {
+        before = w.white;
+        text = f.text;
+        behind = u.white;
+        white_before = w.is_white;
+        white_behind = u.is_white;
+        is_text = f.is;
+        spelled = refl;
+      };
+      valid = IsUtf8-append (w.white ++ f.text) u.white (IsUtf8-append w.white f.text (white_utf8 w.white w.is_white)
+          f.valid) (white_utf8 u.white u.is_white);
+      spelled = w.spelled ∙ ap (λ (x : List ℕ). w.white ++ x) (f.spelled ∙ ap (λ (x : List ℕ). f.text ++ x) u.spelled)
+          ∙ regroup w.white f.text u.white end;
       runs = λ r le head stack as_value others a.
           let inner = u.white ++ others in
           let b : Alike rest inner = alike_in rest u.white end others u.spelled a in
@@ -150,7 +131,9 @@ abbrev pub IsClosed : (List ℕ → Type 0) → ℕ → List ℕ → Type 0
 IsClosed IsPart closing text = (part : List ℕ) × IsPart part × (text ≡ part ++ closing ∷ [])
 
 abbrev pub IsSome : (List ℕ → Type 0) → ℕ → List ℕ → Type 0
-IsSome IsPart closing text = (part : List ℕ) × (parts : List (List ℕ)) × IsPart part × Every IsPart parts × (text ≡ joined (part ∷ parts) ++ closing ∷ [])
+IsSome IsPart closing text =
+    (part : List ℕ) × (parts : List (List ℕ)) × IsPart part × Every IsPart
+    parts × (text ≡ joined (part ∷ parts) ++ closing ∷ [])
 
 abbrev pub IsInner : (List ℕ → Type 0) → ℕ → List ℕ → Type 0
 IsInner IsPart closing text = (inner : List ℕ) × AreParts IsPart inner × (text ≡ inner ++ closing ∷ [])
@@ -167,42 +150,68 @@ Unclosed true closing bytes = strip closing (behind_white bytes) ≡ None
 Unclosed false closing bytes = Unit {0}
 
 -- what is due of the first part, and of any other
-pub record StepCuts {Y : Type 0} (step : List ℕ → Read (List Y × Bool)) (IsPart : List ℕ → Type 0) (closing : ℕ) (due : Bool → ℕ → List Due) (room : ℕ) : Type 0 where
+pub record StepCuts {Y : Type 0} (step : List ℕ → Read (List Y × Bool)) (IsPart : List ℕ → Type 0) (closing : ℕ)
+    (due : Bool → ℕ → List Due) (room : ℕ) : Type 0 where
   pub null : (part : List ℕ) × IsPart part
-  pub fails : (first : Bool) (bytes : List ℕ) (f : Fault) → Unclosed first closing bytes → step bytes ≡ Err f → Cut (IsClosed IsPart closing) (due first) room bytes f
-  pub goes : (bytes : List ℕ) (ys : List Y) (rest : List ℕ) → step bytes ≡ Ok ((ys, true), rest) → Goes IsPart bytes rest
-  pub next : (first : Bool) (part x : List ℕ) (r : ℕ) → room ≤ r → (stack : List Due) → IsPart part → accepts (part ++ 44 ∷ x) (due first r ++ stack) ≡ accepts x (due false r ++ stack)
+  pub fails : (first : Bool) (bytes : List ℕ) (f : Fault) → Unclosed first closing bytes → step bytes ≡ Err f →
+      Cut (IsClosed IsPart closing) (due first) room bytes f
+  pub goes : (bytes : List ℕ) (ys : List Y) (rest : List ℕ) → step bytes ≡ Ok ((ys, true), rest) →
+      Goes IsPart bytes rest
+  pub next : (first : Bool) (part x : List ℕ) (r : ℕ) → room ≤ r → (stack : List Due) → IsPart part →
+      accepts (part ++ 44 ∷ x) (due first r ++ stack) ≡ accepts x (due false r ++ stack)
   pub ends : (first : Bool) (r : ℕ) (stack : List Due) → Bars (due first r ++ stack) []
 
-pub closed_some : (IsPart : List ℕ → Type 0) (closing : ℕ) (text : List ℕ) → IsClosed IsPart closing text → IsSome IsPart closing text
+pub closed_some : (IsPart : List ℕ → Type 0) (closing : ℕ) (text : List ℕ) → IsClosed IsPart closing text →
+    IsSome IsPart closing text
 closed_some IsPart closing text (part, is, e) = (part, [], is, tt, e)
 
-pub more_some : (IsPart : List ℕ → Type 0) (closing : ℕ) (first : List ℕ) → IsPart first → (text : List ℕ) → IsSome IsPart closing text →
+pub more_some : (IsPart : List ℕ → Type 0) (closing : ℕ) (first : List ℕ) → IsPart first →
+    (text : List ℕ) → IsSome IsPart closing text →
     IsSome IsPart closing ((first ++ 44 ∷ []) ++ (text ++ []))
 more_some IsPart closing first h text (part, parts, is, every, e) = (
   first,
   part ∷ parts,
   h,
   (is, every),
-  append_assoc first (44 ∷ []) (text ++ []) ∙ ap (λ (x : List ℕ). first ++ 44 ∷ x) (append-nil text ∙ e) ∙ sym (append_assoc first (44 ∷ joined (part ∷ parts)) (closing ∷ [])),
+  append_assoc first (44 ∷ []) (text ++ []) ∙ ap (λ (x : List ℕ). first ++ 44 ∷ x) (append-nil text ∙ e)
+      ∙ sym (append_assoc first (44 ∷ joined (part ∷ parts)) (closing ∷ [])),
 )
 
-turns_cut : {Y : Type 0} (step : List ℕ → Read (List Y × Bool)) (IsPart : List ℕ → Type 0) (closing : ℕ) (due : Bool → ℕ → List Due) (room : ℕ) →
+turns_cut : {Y : Type 0} (step : List ℕ → Read (List Y × Bool)) (IsPart : List ℕ → Type 0) (closing : ℕ)
+    (due : Bool → ℕ → List Due) (room : ℕ) →
     StepCuts step IsPart closing due room →
     (f : Fault) (first : Bool) (bytes : List ℕ) → Unclosed first closing bytes → FailedTurns step f bytes →
     Cut (IsSome IsPart closing) (due first) room bytes f
-turns_cut {Y = Y} step IsPart closing due room s f first bytes o (fails _ e) = cut_as (IsClosed IsPart closing) (IsSome IsPart closing) (due first) room bytes f (closed_some IsPart closing) (s.fails first bytes f o e)
+turns_cut {Y = Y} step IsPart closing due room s f first bytes o (fails _ e) =
+    cut_as (IsClosed IsPart closing) (IsSome IsPart closing) (due first) room bytes f (closed_some IsPart closing)
+    (s.fails first bytes f o e)
 turns_cut {Y = Y} step IsPart closing due room s f first bytes o (spent _ none e) =
-    here (IsSome IsPart closing) (due first) room bytes (s.null.0 ++ closing ∷ []) f e (s.null.0, [], s.null.1, tt, refl) (λ r stack. subst (λ (x : List ℕ). Bars (due first r ++ stack) x) (sym none) (s.ends first r stack))
+    here (IsSome IsPart closing) (due first) room bytes (s.null.0 ++ closing ∷ []) f e (
+      s.null.0,
+      [],
+      s.null.1,
+      tt,
+      refl,
+    ) (λ r stack. subst (λ (x : List ℕ). Bars (due first r ++ stack) x) (sym none) (s.ends first r stack))
 turns_cut {Y = Y} step IsPart closing due room s f first bytes o (later _ ys rest e turns) =
     let g = s.goes bytes ys rest e in
-    within (IsSome IsPart closing) (IsSome IsPart closing) (due first) (due false) room room (g.part ++ 44 ∷ []) [] bytes rest f
-    (IsUtf8-append g.part (44 ∷ []) g.valid (word_utf8 (44 ∷ []) refl)) (g.spelled ∙ sym (append_assoc g.part (44 ∷ []) rest)) (more_some IsPart closing g.part g.is)
-    (λ r k stack. (r, stack, k, λ x a. ap (λ (y : List ℕ). accepts y (due first r ++ stack)) (append_assoc g.part (44 ∷ []) x) ∙ s.next first g.part x r (counts_le f room r k) stack g.is))
+    within (IsSome IsPart closing) (IsSome IsPart closing) (due first) (due false) room room (g.part ++ 44 ∷ []) []
+    bytes rest f
+    (IsUtf8-append g.part (44 ∷ []) g.valid (word_utf8 (44 ∷ []) refl))
+    (g.spelled ∙ sym (append_assoc g.part (44 ∷ []) rest)) (more_some IsPart closing g.part g.is)
+    (λ r k stack. (
+      r,
+      stack,
+      k,
+      λ x a. ap (λ (y : List ℕ). accepts y (due first r ++ stack))
+          (append_assoc g.part (44 ∷ []) x) ∙ s.next first g.part x r (counts_le f room r k) stack g.is,
+    ))
     (turns_cut step IsPart closing due room s f false rest tt turns)
 
-pub some_inner : (IsPart : List ℕ → Type 0) (closing : ℕ) (text : List ℕ) → IsSome IsPart closing text → IsInner IsPart closing text
-some_inner IsPart closing text (part, parts, is, every, e) = (joined (part ∷ parts), inr (part, parts, is, every, refl), e)
+pub some_inner : (IsPart : List ℕ → Type 0) (closing : ℕ) (text : List ℕ) → IsSome IsPart closing text →
+    IsInner IsPart closing text
+some_inner IsPart closing text (part, parts, is, every, e) =
+    (joined (part ∷ parts), inr (part, parts, is, every, refl), e)
 
 pub goes_less : (IsPart : List ℕ → Type 0) (bytes rest : List ℕ) → Goes IsPart bytes rest → length rest < length bytes
 goes_less IsPart bytes rest g =
@@ -210,14 +219,17 @@ goes_less IsPart bytes rest g =
     let e : length bytes ≡ length (g.part ++ 44 ∷ rest) = ap (λ (x : List ℕ). length x) g.spelled in
     omega arith
 
-pub inner_cut : {Y : Type 0} (step : List ℕ → Read (List Y × Bool)) (IsPart : List ℕ → Type 0) (closing : ℕ) (due : Bool → ℕ → List Due) (room : ℕ) →
+pub inner_cut : {Y : Type 0} (step : List ℕ → Read (List Y × Bool)) (IsPart : List ℕ → Type 0) (closing : ℕ)
+    (due : Bool → ℕ → List Due) (room : ℕ) →
     StepCuts step IsPart closing due room → (bytes : List ℕ) (f : Fault) (o : Option (List ℕ)) →
-    strip closing (behind_white bytes) ≡ o → unless_closed (repeated step (length bytes) bytes) o ≡ Err f → Cut (IsInner IsPart closing) (due true) room bytes f
+    strip closing (behind_white bytes) ≡ o → unless_closed (repeated step (length bytes) bytes) o ≡ Err f →
+    Cut (IsInner IsPart closing) (due true) room bytes f
 inner_cut {Y = Y} step IsPart closing due room s bytes f (Some rest) e h = absurd cc
 inner_cut {Y = Y} step IsPart closing due room s bytes f None e h =
     cut_as (IsSome IsPart closing) (IsInner IsPart closing) (due true) room bytes f (some_inner IsPart closing)
     (turns_cut step IsPart closing due room s f true bytes e
-    (turns_err step (λ xs ys rest go. goes_less IsPart xs rest (s.goes xs ys rest go)) (length bytes) f bytes (omega arith) h))
+    (turns_err step (λ xs ys rest go. goes_less IsPart xs rest (s.goes xs ys rest go))
+    (length bytes) f bytes (omega arith) h))
 
 -- neither a comma nor the bracket that closes stands here
 abbrev pub Unparted : ℕ → List ℕ → Type 0
@@ -225,12 +237,14 @@ Unparted closing [] = Unit {0}
 Unparted closing (b ∷ bytes) = ((b == 44) ≡ false) × ((b == closing) ≡ false)
 
 separator_by : (closing b : ℕ) (bytes : List ℕ) (f : Fault) (c k : Bool) → (b == 44) ≡ c → (b == closing) ≡ k →
-    ◌≡◌ {A = Read Bool} (cond c (Ok (true, bytes)) (cond k (Ok (false, bytes)) (Err (unexpected (b ∷ bytes))))) (Err f) → (unexpected (b ∷ bytes) ≡ f) × Unparted closing (b ∷ bytes)
+    ◌≡◌ {A = Read Bool} (cond c (Ok (true, bytes)) (cond k (Ok (false, bytes)) (Err (unexpected (b ∷ bytes)))))
+    (Err f) → (unexpected (b ∷ bytes) ≡ f) × Unparted closing (b ∷ bytes)
 separator_by closing b bytes f true k d e h = absurd cc
 separator_by closing b bytes f false true d e h = absurd cc
 separator_by closing b bytes f false false d e h = (err_same {A = Bool × List ℕ} (unexpected (b ∷ bytes)) f h, (d, e))
 
-pub separator_err : (closing : ℕ) (bytes : List ℕ) (f : Fault) → separator_at closing bytes ≡ Err f → (unexpected bytes ≡ f) × Unparted closing bytes
+pub separator_err : (closing : ℕ) (bytes : List ℕ) (f : Fault) → separator_at closing bytes ≡ Err f →
+    (unexpected bytes ≡ f) × Unparted closing bytes
 unfolding separator_at
 separator_err closing [] f h = (err_same {A = Bool × List ℕ} (unexpected []) f h, tt)
 separator_err closing (b ∷ bytes) f h = separator_by closing b bytes f (b == 44) (b == closing) refl refl h
@@ -243,6 +257,7 @@ pub bars_members : (r : ℕ) (bytes : List ℕ) (stack : List Due) → Unparted 
 bars_members r [] stack u = bars_end (members r) stack refl
 bars_members r (b ∷ bytes) stack (c, k) = bars_byte (members r) b bytes stack (rw (c, k) refl)
 
-pub strip_other : (w b : ℕ) (bytes : List ℕ) (t : Bool) → (b == w) ≡ t → cond t (Some bytes) None ≡ None → (b == w) ≡ false
+pub strip_other : (w b : ℕ) (bytes : List ℕ) (t : Bool) → (b == w) ≡ t → cond t (Some bytes) None ≡ None →
+    (b == w) ≡ false
 strip_other w b bytes true e h = absurd cc
 strip_other w b bytes false e h = e

@@ -17,12 +17,16 @@ use Rattle.json_text.proofs.ClearPlaces.{IsSomeText, clear_there, not_utf8, dept
 
 place_of_cut : (depth : ℕ) (bytes : List ℕ) (f : Fault) (c : Cut (Padded (IsSpelled depth)) a_text depth bytes f) →
     (length bytes - left_of f ≡ length c.front)
-place_of_cut depth bytes f c = let l = ap (λ (x : List ℕ). length x) c.spelled in omega (arith, c.left, l, length-append c.front c.rest)
+place_of_cut depth bytes f c = let l = ap (λ (x : List ℕ). length x) c.spelled in
+    omega (arith, c.left, l, length-append c.front c.rest)
 
-front_of_cut : (bytes : List ℕ) (f : Fault) (c : Cut (Padded (IsSpelled 128)) a_text 128 bytes f) → take (length bytes - left_of f) bytes ≡ c.front
-front_of_cut bytes f c = ap (λ (n : ℕ). take n bytes) (place_of_cut 128 bytes f c) ∙ ap (λ (x : List ℕ). take (length c.front) x) c.spelled ∙ take_at c.front c.rest (length c.front) refl
+front_of_cut : (bytes : List ℕ) (f : Fault) (c : Cut (Padded (IsSpelled 128)) a_text 128 bytes f) →
+    take (length bytes - left_of f) bytes ≡ c.front
+front_of_cut bytes f c = ap (λ (n : ℕ). take n bytes) (place_of_cut 128 bytes f c)
+    ∙ ap (λ (x : List ℕ). take (length c.front) x) c.spelled ∙ take_at c.front c.rest (length c.front) refl
 
-valid_before : (bytes : List ℕ) (f : Fault) (c : Cut (Padded (IsSpelled 128)) a_text 128 bytes f) → IsUtf8 (take (length bytes - left_of f) bytes)
+valid_before : (bytes : List ℕ) (f : Fault) (c : Cut (Padded (IsSpelled 128)) a_text 128 bytes f) →
+    IsUtf8 (take (length bytes - left_of f) bytes)
 valid_before bytes f c = subst IsUtf8 (sym (front_of_cut bytes f c)) c.valid
 
 is_place : (bytes : List ℕ) (f : Fault) → Cut (Padded (IsSpelled 128)) a_text 128 bytes f → Clear IsSomeText bytes f →
@@ -36,15 +40,18 @@ is_place bytes f c d = (
 
 rest_of_cut : (depth : ℕ) (bytes : List ℕ) (f : Fault) (c : Cut (Padded (IsSpelled depth)) a_text depth bytes f) →
     drop (length bytes - left_of f) bytes ≡ c.rest
-rest_of_cut depth bytes f c = ap (λ (n : ℕ). drop n bytes) (place_of_cut depth bytes f c) ∙ ap (λ (x : List ℕ). drop (length c.front) x) c.spelled ∙ drop_at c.front c.rest (length c.front) refl
+rest_of_cut depth bytes f c = ap (λ (n : ℕ). drop n bytes) (place_of_cut depth bytes f c)
+    ∙ ap (λ (x : List ℕ). drop (length c.front) x) c.spelled ∙ drop_at c.front c.rest (length c.front) refl
 
 up_from : (depth : ℕ) (bytes : List ℕ) (f : Fault) (c : Cut (Padded (IsSpelled depth)) a_text depth bytes f) →
     IsValidUpTo bytes (length bytes - left_of f) → IsValidUpTo c.rest 0
 up_from depth bytes f c v =
-    valid_here c.front c.rest c.valid (subst (λ (x : List ℕ). IsValidUpTo x (length c.front)) c.spelled (subst (λ (n : ℕ). IsValidUpTo bytes n) (place_of_cut depth bytes f c) v))
+    valid_here c.front c.rest c.valid (subst (λ (x : List ℕ). IsValidUpTo x (length c.front)) c.spelled
+    (subst (λ (n : ℕ). IsValidUpTo bytes n) (place_of_cut depth bytes f c) v))
 
 -- a text that begins so goes on with no other byte than the one at the fault
-begins_no_longer : (bytes : List ℕ) (f : Fault) (c : Cut (Padded (IsSpelled 128)) a_text 128 bytes f) (depth r : ℕ) → depth ≤ r → Counts f 128 r →
+begins_no_longer : (bytes : List ℕ) (f : Fault) (c : Cut (Padded (IsSpelled 128)) a_text 128 bytes f) (depth r : ℕ) →
+    depth ≤ r → Counts f 128 r →
     length bytes - left_of f < length bytes →
     BeginsWithin depth (take (length bytes - left_of f + 1) bytes) → ⊥
 begins_no_longer bytes f c depth r le k lt (more, is) = by c.rest refl
@@ -58,31 +65,43 @@ begins_no_longer bytes f c depth r le k lt (more, is) = by c.rest refl
         omega arith
     by (b ∷ rest) e =
         let n = place_of_cut 128 bytes f c in
-        let len : length (c.front ++ b ∷ []) ≡ length bytes - left_of f + 1 = omega (arith, length-append c.front (b ∷ []), n) in
-        let whole : bytes ≡ (c.front ++ b ∷ []) ++ rest = c.spelled ∙ ap (λ (x : List ℕ). c.front ++ x) e ∙ sym (append_assoc c.front (b ∷ []) rest) in
-        let front : take (length bytes - left_of f + 1) bytes ≡ c.front ++ b ∷ [] = ap (λ (x : List ℕ). take (length bytes - left_of f + 1) x) whole ∙ take_at (c.front ++ b ∷ []) rest (length bytes - left_of f + 1) len in
-        let text : Padded (IsSpelled depth) (c.front ++ b ∷ more) = subst (λ (x : List ℕ). Padded (IsSpelled depth) x) (ap (λ (x : List ℕ). x ++ more) front ∙ append_assoc c.front (b ∷ []) more) is in
+        let len : length (c.front ++ b ∷ []) ≡ length bytes - left_of f + 1 = omega
+        (arith, length-append c.front (b ∷ []), n) in
+        let whole : bytes ≡ (c.front ++ b ∷ []) ++ rest = c.spelled ∙ ap (λ (x : List ℕ). c.front ++ x) e
+        ∙ sym (append_assoc c.front (b ∷ []) rest) in
+        let front : take (length bytes - left_of f + 1) bytes ≡ c.front ++ b ∷ [] = ap
+        (λ (x : List ℕ). take (length bytes - left_of f + 1) x) whole
+        ∙ take_at (c.front ++ b ∷ []) rest (length bytes - left_of f + 1) len in
+        let text : Padded (IsSpelled depth) (c.front ++ b ∷ more) = subst (λ (x : List ℕ). Padded (IsSpelled depth) x)
+        (ap (λ (x : List ℕ). x ++ more) front ∙ append_assoc c.front (b ∷ []) more) is in
         let yes = text_taken depth r le (c.front ++ b ∷ more) text in
         let alike : Alike c.rest (b ∷ more) = subst (λ (x : List ℕ). Alike x (b ∷ more)) (sym e) (more, refl) in
         let never = c.stuck r k [] (b ∷ more) alike in
         let both : true ≡ false = sym yes ∙ never in
         absurd cc
 
-no_text : (bytes : List ℕ) (n : ℕ) (c : Cut (Padded (IsSpelled 128)) a_text 128 bytes (fault.Syntax n)) (depth : ℕ) → Padded (IsSpelled depth) bytes →
+no_text : (bytes : List ℕ) (n : ℕ) (c : Cut (Padded (IsSpelled 128)) a_text 128 bytes (fault.Syntax n)) (depth : ℕ) →
+    Padded (IsSpelled depth) bytes →
     ⊥
 no_text bytes n c depth is =
     let r = 128 + depth in
-    let yes = text_taken depth r (omega arith) (c.front ++ c.rest) (subst (λ (x : List ℕ). Padded (IsSpelled depth) x) c.spelled is) in
+    let yes = text_taken depth r (omega arith) (c.front ++ c.rest)
+    (subst (λ (x : List ℕ). Padded (IsSpelled depth) x) c.spelled is) in
     let never = c.stuck r (omega arith) [] c.rest (alike_same c.rest) in
     let both : true ≡ false = sym yes ∙ never in
     absurd cc
 
-longest : (bytes : List ℕ) (n : ℕ) (c : Cut (Padded (IsSpelled 128)) a_text 128 bytes (fault.Syntax n)) → IsLongest bytes (length bytes - n)
-longest bytes n c depth = (λ lt begins. begins_no_longer bytes (fault.Syntax n) c depth (128 + depth) (omega arith) (omega arith) lt begins, λ is. no_text bytes n c depth is)
+longest : (bytes : List ℕ) (n : ℕ) (c : Cut (Padded (IsSpelled 128)) a_text 128 bytes (fault.Syntax n)) →
+    IsLongest bytes (length bytes - n)
+longest bytes n c depth = (
+  λ lt begins. begins_no_longer bytes (fault.Syntax n) c depth (128 + depth) (omega arith) (omega arith) lt begins,
+  λ is. no_text bytes n c depth is,
+)
 
 too_deep : (bytes : List ℕ) (n : ℕ) (c : Cut (Padded (IsSpelled 128)) a_text 128 bytes (fault.Depth n)) →
     BeginsWithin 128 (take (length bytes - n + 1) bytes) → ⊥
-too_deep bytes n c begins = begins_no_longer bytes (fault.Depth n) c 128 128 (omega arith) refl (some c.rest c.cause refl) begins
+too_deep bytes n c begins = begins_no_longer bytes (fault.Depth n) c 128 128 (omega arith)
+    refl (some c.rest c.cause refl) begins
   where
     some : (rest : List ℕ) → BracketHere rest → c.rest ≡ rest → length bytes - n < length bytes
     some rest (more, is) e =
@@ -94,12 +113,17 @@ too_deep bytes n c begins = begins_no_longer bytes (fault.Depth n) c 128 128 (om
         omega arith
       where
         one : (rest more : List ℕ) → ((rest ≡ 91 ∷ more) ⊎ (rest ≡ 123 ∷ more)) → 0 < length rest
-        one rest more (inl is) = let z : length rest ≡ suc (length more) = ap (λ (x : List ℕ). length x) is in omega arith
-        one rest more (inr is) = let z : length rest ≡ suc (length more) = ap (λ (x : List ℕ). length x) is in omega arith
+        one rest more (inl is) = let z : length rest ≡ suc (length more) = ap (λ (x : List ℕ). length x) is in
+            omega arith
+        one rest more (inr is) = let z : length rest ≡ suc (length more) = ap (λ (x : List ℕ). length x) is in
+            omega arith
 
-placed_by : (bytes : List ℕ) (f : Fault) → Cut (Padded (IsSpelled 128)) a_text 128 bytes f → Clear IsSomeText bytes f → FaultAt bytes (placed (length bytes) f)
-placed_by bytes (fault.Syntax n) c d = (is_place bytes (fault.Syntax n) c d, longest bytes n c, λ v. c.cause (up_from 128 bytes (fault.Syntax n) c v))
-placed_by bytes (fault.Utf8 n) c d = (is_place bytes (fault.Utf8 n) c d, not_utf8 bytes n (valid_before bytes (fault.Utf8 n) c) d)
+placed_by : (bytes : List ℕ) (f : Fault) → Cut (Padded (IsSpelled 128)) a_text 128 bytes f → Clear IsSomeText bytes f →
+    FaultAt bytes (placed (length bytes) f)
+placed_by bytes (fault.Syntax n) c d =
+    (is_place bytes (fault.Syntax n) c d, longest bytes n c, λ v. c.cause (up_from 128 bytes (fault.Syntax n) c v))
+placed_by bytes (fault.Utf8 n) c d =
+    (is_place bytes (fault.Utf8 n) c d, not_utf8 bytes n (valid_before bytes (fault.Utf8 n) c) d)
 placed_by bytes (fault.Depth n) c d = (
   is_place bytes (fault.Depth n) c d,
   (depth_due bytes n d, subst BracketHere (sym (rest_of_cut 128 bytes (fault.Depth n) c)) c.cause, too_deep bytes n c),

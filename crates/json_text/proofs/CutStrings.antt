@@ -35,28 +35,38 @@ quote_alone : IsRest (34 ∷ [])
 quote_alone = ([], refl, refl)
 
 escape_rest : (text : List ℕ) → IsEscape text → IsRest ([] ++ (text ++ 34 ∷ []))
-escape_rest text (char, is, e) = (char ∷ [], rw is refl, ap (λ (x : List ℕ). x ++ 34 ∷ []) (e ∙ sym (append-nil (char_text char))))
+escape_rest text (char, is, e) =
+    (char ∷ [], rw is refl, ap (λ (x : List ℕ). x ++ 34 ∷ []) (e ∙ sym (append-nil (char_text char))))
 
 chars_refuse : (b : ℕ) → (b == 34) ≡ false → (b == 92) ≡ false → is_plain b ≡ false → react due_chars b ≡ refuses
 chars_refuse b q s p =
-    ap (λ (t : Bool). cond t (takes []) (cond (b == 92) (takes (due_escape ∷ due_chars ∷ [])) (cond (is_plain b) (takes (due_chars ∷ [])) refuses))) q
-    ∙ ap (λ (t : Bool). cond t (takes (due_escape ∷ due_chars ∷ [])) (cond (is_plain b) (takes (due_chars ∷ [])) refuses)) s
+    ap (λ (t : Bool). cond t (takes [])
+    (cond (b == 92) (takes (due_escape ∷ due_chars ∷ [])) (cond (is_plain b) (takes (due_chars ∷ [])) refuses))) q
+    ∙ ap (λ (t : Bool). cond t (takes (due_escape ∷ due_chars ∷ []))
+    (cond (is_plain b) (takes (due_chars ∷ [])) refuses)) s
     ∙ ap (λ (t : Bool). cond t (takes (due_chars ∷ [])) refuses) p
 
 end_by : (b : ℕ) (bytes : List ℕ) (f : Fault) (q s : Bool) → is_plain b ≡ false → (b == 34) ≡ q → (b == 92) ≡ s →
-    ◌≡◌ {A = Read (List ℕ × Bool)} (cond q (Ok (([], false), bytes)) (cond s (escape_at (suc (length bytes)) bytes >>= λ c. Ok ((encode_utf8 c.0, true), c.1)) (Err (unexpected (b ∷ bytes))))) (Err f) → Cut IsRest a_string 0 (b ∷ bytes) f
+    ◌≡◌ {A = Read (List ℕ × Bool)} (cond q (Ok (([], false), bytes))
+    (cond s (escape_at (suc (length bytes)) bytes >>= λ c. Ok ((encode_utf8 c.0, true), c.1))
+    (Err (unexpected (b ∷ bytes))))) (Err f) → Cut IsRest a_string 0 (b ∷ bytes) f
 end_by b bytes f true s p d e h = absurd cc
 end_by b bytes f false true p d e h =
-    either_failed {B = (List ℕ × Bool) × List ℕ} (escape_at (suc (length bytes)) bytes) (λ c. Ok ((encode_utf8 c.0, true), c.1)) f (Cut IsRest a_string 0 (b ∷ bytes) f)
-    (λ g. within IsEscape IsRest a_string a_string 0 0 [] (34 ∷ []) (b ∷ bytes) (92 ∷ bytes) f IsUtf8-nil (ap (λ (x : ℕ). x ∷ bytes) (eqb-true b 92 e)) escape_rest
+    either_failed {B = (List ℕ × Bool) × List ℕ} (escape_at (suc (length bytes)) bytes)
+    (λ c. Ok ((encode_utf8 c.0, true), c.1)) f (Cut IsRest a_string 0 (b ∷ bytes) f)
+    (λ g. within IsEscape IsRest a_string a_string 0 0 [] (34 ∷ []) (b ∷ bytes)
+    (92 ∷ bytes) f IsUtf8-nil (ap (λ (x : ℕ). x ∷ bytes) (eqb-true b 92 e)) escape_rest
     (λ r k stack. (r, stack, k, λ x a. refl)) (escape_err (suc (length bytes)) bytes f refl g))
     (λ c p never. absurd (ok_no_err {A = (List ℕ × Bool) × List ℕ} ((encode_utf8 c.0, true), c.1) f never)) h
 end_by b bytes f false false p d e h =
-    here IsRest a_string 0 (b ∷ bytes) (34 ∷ []) f (err_same {A = (List ℕ × Bool) × List ℕ} (unexpected (b ∷ bytes)) f h) quote_alone (λ r stack. bars_byte due_chars b bytes stack (chars_refuse b d e p))
+    here IsRest a_string 0 (b ∷ bytes) (34 ∷ []) f (err_same {A = (List ℕ × Bool) × List ℕ} (unexpected (b ∷ bytes)) f
+    h) quote_alone (λ r stack. bars_byte due_chars b bytes stack (chars_refuse b d e p))
 
-end_err : (bytes : List ℕ) (f : Fault) → stops is_plain bytes ≡ true → end_at bytes ≡ Err f → Cut IsRest a_string 0 bytes f
+end_err : (bytes : List ℕ) (f : Fault) → stops is_plain bytes ≡ true → end_at bytes ≡ Err f →
+    Cut IsRest a_string 0 bytes f
 unfolding end_at
-end_err [] f s h = here IsRest a_string 0 [] (34 ∷ []) f (err_same {A = (List ℕ × Bool) × List ℕ} (unexpected []) f h) quote_alone (λ r stack. bars_end due_chars stack refl)
+end_err [] f s h = here IsRest a_string 0 [] (34 ∷ []) f (err_same {A = (List ℕ × Bool) × List ℕ} (unexpected []) f h)
+    quote_alone (λ r stack. bars_end due_chars stack refl)
 end_err (b ∷ bytes) f s h = end_by b bytes f (b == 34) (b == 92) (not-true (is_plain b) s) refl refl h
 
 all_front : (p : ℕ → Bool) (front back : List ℕ) → list_all p (front ++ back) ≡ true → list_all p front ≡ true
@@ -78,7 +88,10 @@ pub record RunFails (bytes : List ℕ) (f : Fault) : Type 0 where
 
 run_by : (bytes : List ℕ) (f : Fault) (t : Bool) →
     (utf8_valid_len (take (prefix_len is_plain bytes) bytes) == length (take (prefix_len is_plain bytes) bytes)) ≡ t →
-    ◌≡◌ {A = Read (List ℕ)} (cond t (Ok (take (prefix_len is_plain bytes) bytes, drop (prefix_len is_plain bytes) bytes)) (Err (fault.Utf8 (length (drop (utf8_valid_len (take (prefix_len is_plain bytes) bytes)) bytes))))) (Err f) → RunFails bytes f
+    ◌≡◌ {A = Read (List ℕ)} (cond
+    t (Ok (take (prefix_len is_plain bytes) bytes, drop (prefix_len is_plain bytes) bytes))
+    (Err (fault.Utf8 (length (drop (utf8_valid_len (take (prefix_len is_plain bytes) bytes)) bytes))))) (Err f) →
+    RunFails bytes f
 run_by bytes f true e h = absurd cc
 run_by bytes f false e h =
     let n = prefix_len is_plain bytes in
@@ -93,23 +106,29 @@ run_by bytes f false e h =
     let front_len : length front ≡ valid = length-take-le valid run le in
     let bad_len : length bad ≡ length run - valid = length-drop valid run in
     let some : 0 < length bad = omega arith in
-    let spelled : bytes ≡ front ++ (bad ++ behind) = sym (take-append-drop n bytes) ∙ ap (λ (x : List ℕ). x ++ behind) (sym whole) ∙ append_assoc front bad behind in
-    let plain_run : list_all is_plain (front ++ bad) ≡ true = subst (λ (x : List ℕ). list_all is_plain x ≡ true) (sym whole) (prefix_passes is_plain bytes run n refl refl) in
-    let is_valid : utf8_valid_len (front ++ bad) ≡ length front = ap (λ (x : List ℕ). utf8_valid_len x) whole ∙ sym front_len in
-    let left : drop valid bytes ≡ bad ++ behind = ap (λ (x : List ℕ). drop valid x) spelled ∙ drop_at front (bad ++ behind) valid front_len in
+    let spelled : bytes ≡ front ++ (bad ++ behind) = sym (take-append-drop n bytes) ∙ ap (λ (x : List ℕ). x ++ behind)
+    (sym whole) ∙ append_assoc front bad behind in
+    let plain_run : list_all is_plain (front ++ bad) ≡ true = subst (λ (x : List ℕ). list_all is_plain x ≡ true)
+    (sym whole) (prefix_passes is_plain bytes run n refl refl) in
+    let is_valid : utf8_valid_len (front ++ bad) ≡ length front = ap (λ (x : List ℕ). utf8_valid_len x) whole
+    ∙ sym front_len in
+    let left : drop valid bytes ≡ bad ++ behind = ap (λ (x : List ℕ). drop valid x) spelled
+    ∙ drop_at front (bad ++ behind) valid front_len in
     record {
       front = front;
       rest = bad ++ behind;
       spelled = spelled;
       are = all_front is_plain front bad plain_run;
       valid = valid_front run;
-      is = ap (λ (x : List ℕ). fault.Utf8 (length x)) (sym left) ∙ err_same {A = List ℕ × List ℕ} (fault.Utf8 (length (drop valid bytes))) f h;
+      is = ap (λ (x : List ℕ). fault.Utf8 (length x)) (sym left)
+          ∙ err_same {A = List ℕ × List ℕ} (fault.Utf8 (length (drop valid bytes))) f h;
       cause = run_stops front bad behind is_valid some (prefix_stops is_plain bytes);
     }
 
 pub run_fails : (bytes : List ℕ) (f : Fault) → run_at bytes ≡ Err f → RunFails bytes f
 unfolding run_at
-run_fails bytes f h = run_by bytes f (utf8_valid_len (take (prefix_len is_plain bytes) bytes) == length (take (prefix_len is_plain bytes) bytes)) refl h
+run_fails bytes f h = run_by bytes f (utf8_valid_len (take (prefix_len is_plain bytes) bytes) == length
+    (take (prefix_len is_plain bytes) bytes)) refl h
 
 run_cut : (bytes front rest : List ℕ) → bytes ≡ front ++ rest → list_all is_plain front ≡ true → IsUtf8 front →
     Cut IsRest a_string 0 bytes (fault.Utf8 (length rest))
@@ -131,7 +150,8 @@ run_err bytes f h =
     subst (λ (g : Fault). Cut IsRest a_string 0 bytes g) c.is (run_cut bytes c.front c.rest c.spelled c.are c.valid)
 
 -- characters before the rest of a string
-more_chars : (chars : List Char) → list_all is_char chars ≡ true → (text : List ℕ) → IsRest text → IsRest (flat_map char_text chars ++ (text ++ []))
+more_chars : (chars : List Char) → list_all is_char chars ≡ true → (text : List ℕ) → IsRest text →
+    IsRest (flat_map char_text chars ++ (text ++ []))
 more_chars chars h text (others, are, e) = (
   chars ++ others,
   list_all-append is_char chars others ∙ and_from (list_all is_char chars) (list_all is_char others) h are,
@@ -141,10 +161,13 @@ more_chars chars h text (others, are, e) = (
 )
 
 run_stop_by : (bytes run rest : List ℕ) (f : Fault) (t : Bool) →
-    ◌≡◌ {A = Read (List ℕ)} (cond t (Ok (take (prefix_len is_plain bytes) bytes, drop (prefix_len is_plain bytes) bytes)) (Err f)) (Ok (run, rest)) →
+    ◌≡◌ {A = Read (List ℕ)} (cond
+    t (Ok (take (prefix_len is_plain bytes) bytes, drop (prefix_len is_plain bytes) bytes)) (Err f))
+    (Ok (run, rest)) →
     stops is_plain rest ≡ true
 run_stop_by bytes run rest f true h =
-    let (made, left) = ok_pair (take (prefix_len is_plain bytes) bytes) run (drop (prefix_len is_plain bytes) bytes) rest h in
+    let (made, left) = ok_pair (take (prefix_len is_plain bytes) bytes) run (drop (prefix_len is_plain bytes) bytes)
+    rest h in
     subst (λ (x : List ℕ). stops is_plain x ≡ true) left (prefix_stops is_plain bytes)
 run_stop_by bytes run rest f false h = absurd cc
 
@@ -153,29 +176,38 @@ run_stop : (bytes run rest : List ℕ) → run_at bytes ≡ Ok (run, rest) → s
 unfolding run_at
 run_stop bytes run rest h =
     let n = prefix_len is_plain bytes in
-    run_stop_by bytes run rest (fault.Utf8 (length (drop (utf8_valid_len (take n bytes)) bytes))) (utf8_valid_len (take n bytes) == length (take n bytes)) h
+    run_stop_by bytes run rest (fault.Utf8 (length (drop (utf8_valid_len (take n bytes)) bytes)))
+    (utf8_valid_len (take n bytes) == length (take n bytes)) h
 
 -- characters are gone over
-over_chars : (cs : List Char) → list_all is_char cs ≡ true → (f : Fault) (inner : List ℕ) (r : ℕ) → Counts f 0 r → (stack : List Due) →
-    (q : ℕ) × (more : List Due) × Counts f 0 q × ((x : List ℕ) → Alike inner x → accepts (flat_map char_text cs ++ x) (a_string r ++ stack) ≡ accepts x (a_string q ++ more))
+over_chars : (cs : List Char) → list_all is_char cs ≡ true → (f : Fault) (inner : List ℕ) (r : ℕ) → Counts f 0 r →
+    (stack : List Due) →
+    (q : ℕ) × (more : List Due) × Counts f 0 q × ((x : List ℕ) → Alike inner x → accepts (flat_map char_text cs ++ x)
+    (a_string r ++ stack) ≡ accepts x (a_string q ++ more))
 over_chars cs are f inner r k stack = (r, stack, k, λ x a. chars_run cs x stack are)
 
 piece_err : (bytes : List ℕ) (f : Fault) → piece_at bytes ≡ Err f → Cut IsRest a_string 0 bytes f
 unfolding piece_at
 piece_err bytes f h =
-    either_failed {B = (List ℕ × Bool) × List ℕ} (run_at bytes) (λ run. end_at run.1 >>= λ end. Ok ((run.0 ++ end.0.0, end.0.1), end.1)) f (Cut IsRest a_string 0 bytes f)
+    either_failed {B = (List ℕ × Bool) × List ℕ} (run_at bytes)
+    (λ run. end_at run.1 >>= λ end. Ok ((run.0 ++ end.0.0, end.0.1), end.1)) f (Cut IsRest a_string 0 bytes f)
     (λ e. run_err bytes f e)
-    (λ x p g. either_failed {B = (List ℕ × Bool) × List ℕ} (end_at x.1) (λ end. Ok ((x.0 ++ end.0.0, end.0.1), end.1)) f (Cut IsRest a_string 0 bytes f)
+    (λ x p g. either_failed {B = (List ℕ × Bool) × List ℕ} (end_at x.1) (λ end. Ok ((x.0 ++ end.0.0, end.0.1), end.1))
+    f (Cut IsRest a_string 0 bytes f)
     (λ e. let c = run_is bytes x.0 x.1 p in
-    within IsRest IsRest a_string a_string 0 0 (flat_map char_text c.chars) [] bytes x.1 f c.valid c.spelled (more_chars c.chars c.are) (over_chars c.chars c.are f x.1) (end_err x.1 f (run_stop bytes x.0 x.1 p) e))
+    within IsRest IsRest a_string a_string 0 0 (flat_map char_text c.chars) [] bytes x.1 f c.valid c.spelled
+    (more_chars c.chars c.are) (over_chars c.chars c.are f x.1) (end_err x.1 f (run_stop bytes x.0 x.1 p) e))
     (λ y q never. absurd (ok_no_err {A = (List ℕ × Bool) × List ℕ} ((x.0 ++ y.0.0, y.0.1), y.1) f never)) g) h
 
 text_turns : (f : Fault) (bytes : List ℕ) → FailedTurns piece_at f bytes → Cut IsRest a_string 0 bytes f
 text_turns f bytes (fails _ e) = piece_err bytes f e
-text_turns f bytes (spent _ none e) = here IsRest a_string 0 bytes (34 ∷ []) f e quote_alone (λ r stack. subst (λ (x : List ℕ). Bars (due_chars ∷ stack) x) (sym none) (bars_end due_chars stack refl))
+text_turns f bytes (spent _ none e) =
+    here IsRest a_string 0 bytes (34 ∷ []) f e quote_alone
+    (λ r stack. subst (λ (x : List ℕ). Bars (due_chars ∷ stack) x) (sym none) (bars_end due_chars stack refl))
 text_turns f bytes (later _ ys rest e turns) =
     let c = piece_ok bytes ys true rest e in
-    within IsRest IsRest a_string a_string 0 0 (flat_map char_text c.chars) [] bytes rest f c.valid c.spelled (more_chars c.chars c.are) (over_chars c.chars c.are f rest) (text_turns f rest turns)
+    within IsRest IsRest a_string a_string 0 0 (flat_map char_text c.chars) [] bytes rest f c.valid c.spelled
+    (more_chars c.chars c.are) (over_chars c.chars c.are f rest) (text_turns f rest turns)
 
 pub text_err : (bytes : List ℕ) (f : Fault) → text_at bytes ≡ Err f → Cut IsRest a_string 0 bytes f
 unfolding text_at

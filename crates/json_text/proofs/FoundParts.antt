@@ -20,24 +20,31 @@ pub record Front (IsText : List ℕ → Type 0) (bytes rest : List ℕ) : Type 0
 
 -- ---- parts with commas
 
-separator_by : (closing b : ℕ) (bytes : List ℕ) (again : Bool) (rest : List ℕ) (c k : Bool) → (b == 44) ≡ c → (b == closing) ≡ k →
-    ◌≡◌ {A = Read Bool} (cond c (Ok (true, bytes)) (cond k (Ok (false, bytes)) (Err (unexpected (b ∷ bytes))))) (Ok (again, rest)) → b ∷ bytes ≡ cond again 44 closing ∷ rest
+separator_by : (closing b : ℕ) (bytes : List ℕ) (again : Bool) (rest : List ℕ) (c k : Bool) → (b == 44) ≡ c →
+    (b == closing) ≡ k →
+    ◌≡◌ {A = Read Bool} (cond c (Ok (true, bytes)) (cond k (Ok (false, bytes)) (Err (unexpected (b ∷ bytes)))))
+    (Ok (again, rest)) → b ∷ bytes ≡ cond again 44 closing ∷ rest
 separator_by closing b bytes again rest true k e f h =
     let (made, left) = ok_pair true again bytes rest h in
-    ap (λ (x : ℕ). x ∷ bytes) (eqb-true b 44 e) ∙ ap (λ (x : List ℕ). 44 ∷ x) left ∙ ap (λ (x : Bool). cond x 44 closing ∷ rest) made
+    ap (λ (x : ℕ). x ∷ bytes) (eqb-true b 44 e) ∙ ap (λ (x : List ℕ). 44 ∷ x) left
+    ∙ ap (λ (x : Bool). cond x 44 closing ∷ rest) made
 separator_by closing b bytes again rest false true e f h =
     let (made, left) = ok_pair false again bytes rest h in
-    ap (λ (x : ℕ). x ∷ bytes) (eqb-true b closing f) ∙ ap (λ (x : List ℕ). closing ∷ x) left ∙ ap (λ (x : Bool). cond x 44 closing ∷ rest) made
+    ap (λ (x : ℕ). x ∷ bytes) (eqb-true b closing f) ∙ ap (λ (x : List ℕ). closing ∷ x) left
+    ∙ ap (λ (x : Bool). cond x 44 closing ∷ rest) made
 separator_by closing b bytes again rest false false e f h = absurd cc
 
-pub separator_ok : (closing : ℕ) (bytes : List ℕ) (again : Bool) (rest : List ℕ) → separator_at closing bytes ≡ Ok (again, rest) →
+pub separator_ok : (closing : ℕ) (bytes : List ℕ) (again : Bool) (rest : List ℕ) →
+    separator_at closing bytes ≡ Ok (again, rest) →
     bytes ≡ cond again 44 closing ∷ rest
 unfolding separator_at
 separator_ok closing [] again rest h = absurd cc
-separator_ok closing (b ∷ bytes) again rest h = separator_by closing b bytes again rest (b == 44) (b == closing) refl refl h
+separator_ok closing (b ∷ bytes) again rest h = separator_by closing b bytes again rest (b == 44) (b == closing) refl
+    refl h
 
 -- one part, and the comma or the bracket behind it
-pub record Part {Y : Type 0} (IsPart : List ℕ → Y → Type 0) (closing : ℕ) (bytes : List ℕ) (ys : List Y) (again : Bool) (rest : List ℕ) : Type 0 where
+pub record Part {Y : Type 0} (IsPart : List ℕ → Y → Type 0) (closing : ℕ) (bytes : List ℕ) (ys : List Y) (again : Bool)
+    (rest : List ℕ) : Type 0 where
   pub one : Y
   pub are : ys ≡ one ∷ []
   pub part : List ℕ
@@ -45,7 +52,8 @@ pub record Part {Y : Type 0} (IsPart : List ℕ → Y → Type 0) (closing : ℕ
   pub valid : IsUtf8 part
   pub spelled : bytes ≡ part ++ cond again 44 closing ∷ rest
 
-pub record Parts {Y : Type 0} (IsPart : List ℕ → Y → Type 0) (closing : ℕ) (bytes : List ℕ) (ys : List Y) (rest : List ℕ) : Type 0 where
+pub record Parts {Y : Type 0} (IsPart : List ℕ → Y → Type 0) (closing : ℕ) (bytes : List ℕ) (ys : List Y)
+    (rest : List ℕ) : Type 0 where
   pub first : Y
   pub others : List Y
   pub are : ys ≡ first ∷ others
@@ -56,11 +64,21 @@ pub record Parts {Y : Type 0} (IsPart : List ℕ → Y → Type 0) (closing : �
   pub spelled : bytes ≡ joined (part ∷ parts) ++ closing ∷ rest
 
 parts_ok : {Y : Type 0} (IsPart : List ℕ → Y → Type 0) (closing : ℕ) (step : List ℕ → Read (List Y × Bool)) →
-    ((bytes : List ℕ) (ys : List Y) (again : Bool) (rest : List ℕ) → step bytes ≡ Ok ((ys, again), rest) → Part IsPart closing bytes ys again rest) →
+    ((bytes : List ℕ) (ys : List Y) (again : Bool) (rest : List ℕ) → step bytes ≡ Ok ((ys, again), rest) →
+    Part IsPart closing bytes ys again rest) →
     (bytes : List ℕ) (ys : List Y) (rest : List ℕ) → Turns step bytes ys rest → Parts IsPart closing bytes ys rest
 parts_ok {Y = Y} IsPart closing step ok bytes ys rest (last _ _ _ e) =
     let p = ok bytes ys false rest e in
-    record { first = p.one; others = []; are = p.are; part = p.part; parts = []; each = (p.is, tt); valid = p.valid; spelled = p.spelled }
+    record {
+      first = p.one;
+      others = [];
+      are = p.are;
+      part = p.part;
+      parts = [];
+      each = (p.is, tt);
+      valid = p.valid;
+      spelled = p.spelled;
+    }
 parts_ok {Y = Y} IsPart closing step ok bytes whole end (more _ ys rest zs _ e turns) =
     let p = ok bytes ys true rest e in
     let q = parts_ok IsPart closing step ok rest zs end turns in
@@ -71,12 +89,15 @@ parts_ok {Y = Y} IsPart closing step ok bytes whole end (more _ ys rest zs _ e t
       part = p.part;
       parts = q.part ∷ q.parts;
       each = (p.is, q.each);
-      valid = IsUtf8-append p.part (44 ∷ joined (q.part ∷ q.parts)) p.valid (cons_utf8 44 (joined (q.part ∷ q.parts)) (omega arith) q.valid);
-      spelled = p.spelled ∙ ap (λ (x : List ℕ). p.part ++ 44 ∷ x) q.spelled ∙ sym (append_assoc p.part (44 ∷ joined (q.part ∷ q.parts)) (closing ∷ end));
+      valid = IsUtf8-append p.part (44 ∷ joined (q.part ∷ q.parts)) p.valid (cons_utf8 44 (joined (q.part ∷ q.parts))
+          (omega arith) q.valid);
+      spelled = p.spelled ∙ ap (λ (x : List ℕ). p.part ++ 44 ∷ x) q.spelled
+          ∙ sym (append_assoc p.part (44 ∷ joined (q.part ∷ q.parts)) (closing ∷ end));
     }
 
 -- between brackets
-pub record Inner {Y : Type 0} (IsPart : List ℕ → Y → Type 0) (closing : ℕ) (bytes : List ℕ) (ys : List Y) (rest : List ℕ) : Type 0 where
+pub record Inner {Y : Type 0} (IsPart : List ℕ → Y → Type 0) (closing : ℕ) (bytes : List ℕ) (ys : List Y)
+    (rest : List ℕ) : Type 0 where
   pub inner : List ℕ
   pub is : Listed IsPart inner ys
   pub valid : IsUtf8 inner
@@ -86,13 +107,22 @@ some_inner : {Y : Type 0} (IsPart : List ℕ → Y → Type 0) (closing : ℕ) (
     Parts IsPart closing bytes ys rest → Inner IsPart closing bytes ys rest
 some_inner {Y = Y} IsPart closing bytes ys rest p =
     let is : Listed IsPart (joined (p.part ∷ p.parts)) (p.first ∷ p.others) = (p.part ∷ p.parts, p.each, refl) in
-    record { inner = joined (p.part ∷ p.parts); is = subst (λ (x : List Y). Listed IsPart (joined (p.part ∷ p.parts)) x) (sym p.are) is; valid = p.valid; spelled = p.spelled }
+    record {
+      inner = joined (p.part ∷ p.parts);
+      is = subst (λ (x : List Y). Listed IsPart (joined (p.part ∷ p.parts)) x)
+          (sym p.are) is;
+      valid = p.valid;
+      spelled = p.spelled;
+    }
 
 inner_by : {Y : Type 0} (IsPart : List ℕ → Y → Type 0) (closing : ℕ) (step : List ℕ → Read (List Y × Bool)) →
-    ((bytes : List ℕ) (ys : List Y) (again : Bool) (rest : List ℕ) → step bytes ≡ Ok ((ys, again), rest) → Part IsPart closing bytes ys again rest) →
+    ((bytes : List ℕ) (ys : List Y) (again : Bool) (rest : List ℕ) → step bytes ≡ Ok ((ys, again), rest) →
+    Part IsPart closing bytes ys again rest) →
     (bytes : List ℕ) (ys : List Y) (rest : List ℕ) (o : Option (List ℕ)) → strip closing (behind_white bytes) ≡ o →
     unless_closed (repeated step (length bytes) bytes) o ≡ Ok (ys, rest) → Inner IsPart closing bytes ys rest
-inner_by {Y = Y} IsPart closing step ok bytes ys rest None e h = some_inner IsPart closing bytes ys rest (parts_ok IsPart closing step ok bytes ys rest (turns_ok step (length bytes) bytes ys rest h))
+inner_by {Y = Y} IsPart closing step ok bytes ys rest None e h =
+    some_inner IsPart closing bytes ys
+    rest (parts_ok IsPart closing step ok bytes ys rest (turns_ok step (length bytes) bytes ys rest h))
 inner_by {Y = Y} IsPart closing step ok bytes ys rest (Some behind) e h =
     let (made, left) = ok_pair {A = List Y} [] ys behind rest h in
     let w = whites bytes in
@@ -100,7 +130,8 @@ inner_by {Y = Y} IsPart closing step ok bytes ys rest (Some behind) e h =
       inner = w.white;
       is = subst (λ (x : List Y). Listed IsPart w.white x) made w.is_white;
       valid = white_utf8 w.white w.is_white;
-      spelled = w.spelled ∙ ap (λ (x : List ℕ). w.white ++ x) (stripped closing (behind_white bytes) behind e ∙ ap (λ (x : List ℕ). closing ∷ x) left);
+      spelled = w.spelled ∙ ap (λ (x : List ℕ). w.white ++ x) (stripped closing (behind_white bytes) behind e
+          ∙ ap (λ (x : List ℕ). closing ∷ x) left);
     }
 
 -- ---- values
@@ -113,8 +144,17 @@ padded IsText bytes behind f =
     let w = whites behind in
     record {
       text = v.white ++ f.text ++ w.white;
-      is = record { before = v.white; text = f.text; behind = w.white; white_before = v.is_white; white_behind = w.is_white; is_text = f.is; spelled = refl };
-      valid = IsUtf8-append (v.white ++ f.text) w.white (IsUtf8-append v.white f.text (white_utf8 v.white v.is_white) f.valid) (white_utf8 w.white w.is_white);
+      is = record {
+        before = v.white;
+        text = f.text;
+        behind = w.white;
+        white_before = v.is_white;
+        white_behind = w.is_white;
+        is_text = f.is;
+        spelled = refl;
+      };
+      valid = IsUtf8-append (v.white ++ f.text) w.white (IsUtf8-append v.white f.text (white_utf8 v.white v.is_white)
+          f.valid) (white_utf8 w.white w.is_white);
       spelled =
           v.spelled
           ∙ ap (λ (x : List ℕ). v.white ++ x) (f.spelled ∙ ap (λ (x : List ℕ). f.text ++ x) w.spelled)
@@ -126,7 +166,8 @@ padded IsText bytes behind f =
 
 -- what is read by this is a text of that
 unfoldable pub Reads : (List ℕ → Read Node) → (List ℕ → Node → Type 0) → Type 0
-Reads value IsText = (bytes : List ℕ) (v : Node) (rest : List ℕ) → value bytes ≡ Ok (v, rest) → Front (λ text. IsText text v) bytes rest
+Reads value IsText = (bytes : List ℕ) (v : Node) (rest : List ℕ) → value bytes ≡ Ok (v, rest) →
+    Front (λ text. IsText text v) bytes rest
 
 abbrev pub IsItem : (List ℕ → Node → Type 0) → List ℕ → Node → Type 0
 IsItem IsText part item = Padded (λ text. IsText text item) part
@@ -136,9 +177,12 @@ pub item_ok : (value : List ℕ → Read Node) (IsText : List ℕ → Node → T
     Part (IsItem IsText) 93 bytes ys again rest
 unfolding item_at Reads
 item_ok value IsText reads bytes ys again rest h =
-    let p = bound {B = (List Node × Bool) × List ℕ} (value (behind_white bytes)) (λ item. separator_at 93 (behind_white item.1) >>= λ more. Ok ((item.0 ∷ [], more.0), more.1)) ((ys, again), rest) h in
+    let p = bound {B = (List Node × Bool) × List ℕ} (value (behind_white bytes))
+    (λ item. separator_at 93 (behind_white item.1) >>= λ more. Ok ((item.0 ∷ [], more.0), more.1))
+    ((ys, again), rest) h in
     let x = p.value in
-    let q = bound {B = (List Node × Bool) × List ℕ} (separator_at 93 (behind_white x.1)) (λ more. Ok ((x.0 ∷ [], more.0), more.1)) ((ys, again), rest) p.second in
+    let q = bound {B = (List Node × Bool) × List ℕ} (separator_at 93 (behind_white x.1))
+    (λ more. Ok ((x.0 ∷ [], more.0), more.1)) ((ys, again), rest) p.second in
     let y = q.value in
     let (both, left) = ok_pair {A = List Node × Bool} (x.0 ∷ [], y.0) (ys, again) y.1 rest q.second in
     let f = padded (λ text. IsText text x.0) bytes x.1 (reads (behind_white bytes) x.0 x.1 p.first) in
@@ -150,7 +194,9 @@ item_ok value IsText reads bytes ys again rest h =
       valid = f.valid;
       spelled =
           f.spelled
-          ∙ ap (λ (z : List ℕ). f.text ++ z) (separator_ok 93 (behind_white x.1) y.0 y.1 q.first ∙ ap (λ (z : Bool). cond z 44 93 ∷ y.1) (ap (λ (z : List Node × Bool). z.1) both) ∙ ap (λ (z : List ℕ). cond again 44 93 ∷ z) left);
+          ∙ ap (λ (z : List ℕ). f.text ++ z) (separator_ok 93 (behind_white x.1) y.0 y.1 q.first
+          ∙ ap (λ (z : Bool). cond z 44 93 ∷ y.1) (ap (λ (z : List Node × Bool). z.1) both)
+          ∙ ap (λ (z : List ℕ). cond again 44 93 ∷ z) left);
     }
 
 -- a name, white space and a colon
@@ -158,31 +204,47 @@ pub name_ok : (bytes name rest : List ℕ) → name_at (behind_white bytes) ≡ 
     Front (λ part. Padded (λ text. IsString text (Some name)) part) bytes (58 ∷ rest)
 unfolding name_at
 name_ok bytes name rest h =
-    let p = bound (byte_at 34 (behind_white bytes)) (λ text. text_at text >>= λ name. byte_at 58 (behind_white name.1) >>= λ rest. Ok (name.0, rest)) (name, rest) h in
-    let q = bound (text_at p.value) (λ name. byte_at 58 (behind_white name.1) >>= λ rest. Ok (name.0, rest)) (name, rest) p.second in
+    let p = bound (byte_at 34 (behind_white bytes))
+    (λ text. text_at text >>= λ name. byte_at 58 (behind_white name.1) >>= λ rest. Ok (name.0, rest))
+    (name, rest) h in
+    let q = bound (text_at p.value) (λ name. byte_at 58 (behind_white name.1) >>= λ rest. Ok (name.0, rest))
+    (name, rest) p.second in
     let x = q.value in
     let r = bound (byte_at 58 (behind_white x.1)) (λ rest. Ok (x.0, rest)) (name, rest) q.second in
     let (made, left) = ok_pair x.0 name r.value rest r.second in
     let t = string_ok p.value x.0 x.1 (text_ok p.value x.0 x.1 q.first) in
-    let front : Front (λ text. IsString text (Some x.0)) (behind_white bytes) x.1 = record { text = t.written; is = t.is; valid = t.valid; spelled = byte_ok 34 (behind_white bytes) p.value p.first ∙ t.spelled } in
+    let front : Front (λ text. IsString text (Some x.0)) (behind_white bytes) x.1 = record {
+      text = t.written;
+      is = t.is;
+      valid = t.valid;
+      spelled = byte_ok 34 (behind_white bytes) p.value p.first
+          ∙ t.spelled;
+    } in
     let f = padded (λ text. IsString text (Some x.0)) bytes x.1 front in
     record {
       text = f.text;
       is = subst (λ (n : List ℕ). Padded (λ text. IsString text (Some n)) f.text) made f.is;
       valid = f.valid;
-      spelled = f.spelled ∙ ap (λ (z : List ℕ). f.text ++ z) (byte_ok 58 (behind_white x.1) r.value r.first ∙ ap (λ (z : List ℕ). 58 ∷ z) left);
+      spelled = f.spelled ∙ ap (λ (z : List ℕ). f.text ++ z) (byte_ok 58 (behind_white x.1) r.value r.first
+          ∙ ap (λ (z : List ℕ). 58 ∷ z) left);
     }
 
 pub member_ok : (value : List ℕ → Read Node) (IsText : List ℕ → Node → Type 0) → Reads value IsText →
-    (bytes : List ℕ) (ys : List Member) (again : Bool) (rest : List ℕ) → member_at value bytes ≡ Ok ((ys, again), rest) →
+    (bytes : List ℕ) (ys : List Member) (again : Bool) (rest : List ℕ) →
+    member_at value bytes ≡ Ok ((ys, again), rest) →
     Part (IsMember IsText) 125 bytes ys again rest
 unfolding member_at Reads
 member_ok value IsText reads bytes ys again rest h =
-    let p = bound {B = (List Member × Bool) × List ℕ} (name_at (behind_white bytes)) (λ name. value (behind_white name.1) >>= λ inner. separator_at 125 (behind_white inner.1) >>= λ more. Ok (((name.0, inner.0) ∷ [], more.0), more.1)) ((ys, again), rest) h in
+    let p = bound {B = (List Member × Bool) × List ℕ} (name_at (behind_white bytes))
+    (λ name. value (behind_white name.1) >>= λ inner. separator_at 125 (behind_white inner.1) >>= λ more.
+    Ok (((name.0, inner.0) ∷ [], more.0), more.1)) ((ys, again), rest) h in
     let n = p.value in
-    let q = bound {B = (List Member × Bool) × List ℕ} (value (behind_white n.1)) (λ inner. separator_at 125 (behind_white inner.1) >>= λ more. Ok (((n.0, inner.0) ∷ [], more.0), more.1)) ((ys, again), rest) p.second in
+    let q = bound {B = (List Member × Bool) × List ℕ} (value (behind_white n.1))
+    (λ inner. separator_at 125 (behind_white inner.1) >>= λ more. Ok (((n.0, inner.0) ∷ [], more.0), more.1))
+    ((ys, again), rest) p.second in
     let x = q.value in
-    let r = bound {B = (List Member × Bool) × List ℕ} (separator_at 125 (behind_white x.1)) (λ more. Ok (((n.0, x.0) ∷ [], more.0), more.1)) ((ys, again), rest) q.second in
+    let r = bound {B = (List Member × Bool) × List ℕ} (separator_at 125 (behind_white x.1))
+    (λ more. Ok (((n.0, x.0) ∷ [], more.0), more.1)) ((ys, again), rest) q.second in
     let y = r.value in
     let (both, left) = ok_pair {A = List Member × Bool} ((n.0, x.0) ∷ [], y.0) (ys, again) y.1 rest r.second in
     let f = name_ok bytes n.0 n.1 p.first in
@@ -195,16 +257,23 @@ member_ok value IsText reads bytes ys again rest h =
       valid = IsUtf8-append f.text (58 ∷ g.text) f.valid (cons_utf8 58 g.text (omega arith) g.valid);
       spelled =
           f.spelled
-          ∙ ap (λ (z : List ℕ). f.text ++ 58 ∷ z) (g.spelled ∙ ap (λ (z : List ℕ). g.text ++ z) (separator_ok 125 (behind_white x.1) y.0 y.1 r.first ∙ ap (λ (z : Bool). cond z 44 125 ∷ y.1) (ap (λ (z : List Member × Bool). z.1) both) ∙ ap (λ (z : List ℕ). cond again 44 125 ∷ z) left))
+          ∙ ap (λ (z : List ℕ). f.text ++ 58 ∷ z)
+          (g.spelled ∙ ap (λ (z : List ℕ). g.text ++ z) (separator_ok 125 (behind_white x.1) y.0 y.1 r.first
+          ∙ ap (λ (z : Bool). cond z 44 125 ∷ y.1) (ap (λ (z : List Member × Bool). z.1) both)
+          ∙ ap (λ (z : List ℕ). cond again 44 125 ∷ z) left))
           ∙ sym (append_assoc f.text (58 ∷ g.text) (cond again 44 125 ∷ rest));
     }
 
-pub items_ok : (value : List ℕ → Read Node) (IsText : List ℕ → Node → Type 0) → Reads value IsText → (bytes : List ℕ) (ys : List Node) (rest : List ℕ) →
+pub items_ok : (value : List ℕ → Read Node) (IsText : List ℕ → Node → Type 0) → Reads value IsText →
+    (bytes : List ℕ) (ys : List Node) (rest : List ℕ) →
     items_at value bytes ≡ Ok (ys, rest) → Inner (IsItem IsText) 93 bytes ys rest
 unfolding items_at
-items_ok value IsText reads bytes ys rest h = inner_by (IsItem IsText) 93 (item_at value) (item_ok value IsText reads) bytes ys rest (strip 93 (behind_white bytes)) refl h
+items_ok value IsText reads bytes ys rest h = inner_by (IsItem IsText) 93 (item_at value) (item_ok value IsText reads)
+    bytes ys rest (strip 93 (behind_white bytes)) refl h
 
 pub members_ok : (value : List ℕ → Read Node) (IsText : List ℕ → Node → Type 0) → Reads value IsText →
-    (bytes : List ℕ) (ys : List Member) (rest : List ℕ) → members_at value bytes ≡ Ok (ys, rest) → Inner (IsMember IsText) 125 bytes ys rest
+    (bytes : List ℕ) (ys : List Member) (rest : List ℕ) → members_at value bytes ≡ Ok (ys, rest) →
+    Inner (IsMember IsText) 125 bytes ys rest
 unfolding members_at
-members_ok value IsText reads bytes ys rest h = inner_by (IsMember IsText) 125 (member_at value) (member_ok value IsText reads) bytes ys rest (strip 125 (behind_white bytes)) refl h
+members_ok value IsText reads bytes ys rest h = inner_by (IsMember IsText) 125 (member_at value)
+    (member_ok value IsText reads) bytes ys rest (strip 125 (behind_white bytes)) refl h

@@ -25,7 +25,8 @@ bound (Err e) f y h = absurd cc
 pub ok_same : {A : Type 0} (x y : A) → ◌≡◌ {A = Result A Fault} (Ok x) (Ok y) → x ≡ y
 ok_same x y h = cc
 
-pub ok_pair : {A B : Type 0} (a c : A) (b d : B) → ◌≡◌ {A = Result (A × B) Fault} (Ok (a, b)) (Ok (c, d)) → (a ≡ c) × (b ≡ d)
+pub ok_pair : {A B : Type 0} (a c : A) (b d : B) → ◌≡◌ {A = Result (A × B) Fault} (Ok (a, b)) (Ok (c, d)) →
+    (a ≡ c) × (b ≡ d)
 ok_pair {A = A} {B = B} a c b d h =
     let e : ◌≡◌ {A = A × B} (a, b) (c, d) = ok_same (a, b) (c, d) h in
     (ap (λ (x : A × B). x.0) e, ap (λ (x : A × B). x.1) e)
@@ -34,7 +35,8 @@ pub or_fault_ok : {X : Type 0} (f : Fault) (o : Option X) (x : X) → or_fault f
 or_fault_ok f None x h = absurd cc
 or_fault_ok f (Some y) x h = cc
 
-stripped_by : (w b : ℕ) (bytes rest : List ℕ) (t : Bool) → (b == w) ≡ t → cond t (Some bytes) None ≡ Some rest → b ∷ bytes ≡ w ∷ rest
+stripped_by : (w b : ℕ) (bytes rest : List ℕ) (t : Bool) → (b == w) ≡ t → cond t (Some bytes) None ≡ Some rest →
+    b ∷ bytes ≡ w ∷ rest
 stripped_by w b bytes rest true e h = let x : bytes ≡ rest = cc in let y = eqb-true b w e in cc
 stripped_by w b bytes rest false e h = absurd cc
 
@@ -61,7 +63,12 @@ pub record Whites (bytes : List ℕ) : Type 0 where
 pub whites : (bytes : List ℕ) → Whites bytes
 whites bytes =
     let n = prefix_len is_white bytes in
-    record { white = take n bytes; is_white = prefix_passes is_white bytes (take n bytes) n refl refl; spelled = sym (take-append-drop n bytes) }
+    record {
+      white = take n bytes;
+      is_white = prefix_passes is_white bytes (take n bytes) n refl refl;
+      spelled = sym
+          (take-append-drop n bytes);
+    }
 
 -- UTF-8
 
@@ -73,11 +80,13 @@ pub cons_utf8 : (b : ℕ) (bytes : List ℕ) → b < 128 → IsUtf8 bytes → Is
 cons_utf8 b bytes lt h = IsUtf8-append (b ∷ []) bytes (IsUtf8-from_ascii (b ∷ []) (small b lt)) h
 
 -- bytes below 128 are UTF-8
-pub all_utf8 : (p : ℕ → Bool) (bytes : List ℕ) → ((b : ℕ) → p b ≡ true → b < 128) → list_all p bytes ≡ true → IsUtf8 bytes
+pub all_utf8 : (p : ℕ → Bool) (bytes : List ℕ) → ((b : ℕ) → p b ≡ true → b < 128) → list_all p bytes ≡ true →
+    IsUtf8 bytes
 all_utf8 p [] below h = IsUtf8-nil
 all_utf8 p (b ∷ bytes) below h = all_by p b bytes (p b) refl below h (all_utf8 p bytes below)
   where
-    all_by : (p : ℕ → Bool) (b : ℕ) (bytes : List ℕ) (t : Bool) → p b ≡ t → ((b : ℕ) → p b ≡ true → b < 128) → (t && list_all p bytes) ≡ true →
+    all_by : (p : ℕ → Bool) (b : ℕ) (bytes : List ℕ) (t : Bool) → p b ≡ t → ((b : ℕ) → p b ≡ true → b < 128) →
+        (t && list_all p bytes) ≡ true →
         (list_all p bytes ≡ true → IsUtf8 bytes) → IsUtf8 (b ∷ bytes)
     all_by p b bytes true e below h ih = cons_utf8 b bytes (below b e) (ih h)
     all_by p b bytes false e below h ih = absurd cc
@@ -106,11 +115,13 @@ valid_whole : (bytes : List ℕ) (n : ℕ) → length bytes ≡ n → valid_len_
 valid_whole bytes zero len h = IsUtf8-nil
 valid_whole bytes (suc n) len h = valid_by (is_utf8 (take (suc n) bytes)) refl h
   where
-    valid_by : (t : Bool) → is_utf8 (take (suc n) bytes) ≡ t → cond t (suc n) (valid_len_up_to bytes n) ≡ suc n → IsUtf8 (take (suc n) bytes)
+    valid_by : (t : Bool) → is_utf8 (take (suc n) bytes) ≡ t → cond t (suc n) (valid_len_up_to bytes n) ≡ suc n →
+        IsUtf8 (take (suc n) bytes)
     valid_by true e h = IsUtf8-from_is_utf8 (take (suc n) bytes) e
     valid_by false e h = let le = valid_le bytes n in absurd (omega arith)
 
 -- bytes that are valid up to their end are UTF-8
 pub valid_utf8 : (bytes : List ℕ) → utf8_valid_len bytes ≡ length bytes → IsUtf8 bytes
 unfolding utf8_valid_len
-valid_utf8 bytes h = subst IsUtf8 (take_all (length bytes) bytes (omega arith)) (valid_whole bytes (length bytes) refl h)
+valid_utf8 bytes h = subst IsUtf8 (take_all (length bytes) bytes (omega arith))
+    (valid_whole bytes (length bytes) refl h)

@@ -30,6 +30,7 @@ pub mod NumberEnds
 pub mod Pieces
 pub mod CutEscapes
 pub mod CutStrings
+pub mod CutGrammar
 pub mod CutParts
 pub mod CutItems
 pub mod CutMembers
@@ -39,6 +40,7 @@ pub mod Clears
 pub mod ClearNumbers
 pub mod ClearStrings
 pub mod ClearParts
+pub mod ClearMembers
 pub mod ClearValues
 pub mod ClearPlaces
 pub mod CutPlaces

@@ -72,7 +72,8 @@ react digit b = cond (is_digit b) (takes (digits ∷ [])) refuses
 react point b = cond (b == 46) (takes (digit ∷ [])) skips
 react letter b = cond (is_exponent_letter b) (takes (sign ∷ [])) skips
 react sign b = cond ((b == 43) || (b == 45)) (takes (digit ∷ [])) (cond (is_digit b) (takes (digits ∷ [])) refuses)
-react chars b = cond (b == 34) (takes []) (cond (b == 92) (takes (escape ∷ chars ∷ [])) (cond (is_plain b) (takes (chars ∷ [])) refuses))
+react chars b = cond (b == 34) (takes [])
+    (cond (b == 92) (takes (escape ∷ chars ∷ [])) (cond (is_plain b) (takes (chars ∷ [])) refuses))
 react escape b = cond (b == 117) (takes (hex ∷ hex ∷ hex ∷ hex ∷ [])) (escaping (short_escape b))
 react hex b = cond (is_hex b) (takes []) refuses
 react (item r) b = cond (b == 93) (takes []) (taking (opened (lead_by b) b r) (white ∷ items r ∷ []))
@@ -107,15 +108,20 @@ accepts (b ∷ bytes) stack = feed (λ s. accepts bytes s) b stack
 pub taken : (x : Due) (b : ℕ) (due : List Due) (bytes : List ℕ) (stack : List Due) → react x b ≡ takes due →
     accepts (b ∷ bytes) (x ∷ stack) ≡ accepts bytes (due ++ stack)
 unfolding accepts feed
-taken x b due bytes stack e = ap (λ (a : Act). acts a (λ s. accepts bytes s) stack (feed (λ s. accepts bytes s) b stack)) e
+taken x b due bytes stack e =
+    ap (λ (a : Act). acts a (λ s. accepts bytes s) stack (feed (λ s. accepts bytes s) b stack)) e
 
-pub skipped : (x : Due) (b : ℕ) (bytes : List ℕ) (stack : List Due) → react x b ≡ skips → accepts (b ∷ bytes) (x ∷ stack) ≡ accepts (b ∷ bytes) stack
+pub skipped : (x : Due) (b : ℕ) (bytes : List ℕ) (stack : List Due) → react x b ≡ skips →
+    accepts (b ∷ bytes) (x ∷ stack) ≡ accepts (b ∷ bytes) stack
 unfolding accepts feed
-skipped x b bytes stack e = ap (λ (a : Act). acts a (λ s. accepts bytes s) stack (feed (λ s. accepts bytes s) b stack)) e
+skipped x b bytes stack e = ap (λ (a : Act). acts a (λ s. accepts bytes s) stack (feed (λ s. accepts bytes s) b stack))
+    e
 
-pub refused : (x : Due) (b : ℕ) (bytes : List ℕ) (stack : List Due) → react x b ≡ refuses → accepts (b ∷ bytes) (x ∷ stack) ≡ false
+pub refused : (x : Due) (b : ℕ) (bytes : List ℕ) (stack : List Due) → react x b ≡ refuses →
+    accepts (b ∷ bytes) (x ∷ stack) ≡ false
 unfolding accepts feed
-refused x b bytes stack e = ap (λ (a : Act). acts a (λ s. accepts bytes s) stack (feed (λ s. accepts bytes s) b stack)) e
+refused x b bytes stack e = ap (λ (a : Act). acts a (λ s. accepts bytes s) stack (feed (λ s. accepts bytes s) b stack))
+    e
 
 pub too_long : (b : ℕ) (bytes : List ℕ) → accepts (b ∷ bytes) [] ≡ false
 unfolding accepts feed
@@ -135,35 +141,42 @@ nothing_due = refl
 
 -- ---- what is due none or more times
 
-skip_by : (x : Due) (p : ℕ → Bool) (bytes : List ℕ) (stack : List Due) → may_end x ≡ true → ((b : ℕ) → p b ≡ false → react x b ≡ skips) →
+skip_by : (x : Due) (p : ℕ → Bool) (bytes : List ℕ) (stack : List Due) → may_end x ≡ true →
+    ((b : ℕ) → p b ≡ false → react x b ≡ skips) →
     stops p bytes ≡ true → accepts bytes (x ∷ stack) ≡ accepts bytes stack
 skip_by x p [] stack e skip s = ended x stack e
 skip_by x p (b ∷ bytes) stack e skip s = skipped x b bytes stack (skip b (not-true (p b) s))
 
-run_by : (x : Due) (p : ℕ → Bool) (run bytes : List ℕ) (stack : List Due) → ((b : ℕ) → p b ≡ true → react x b ≡ takes (x ∷ [])) →
+run_by : (x : Due) (p : ℕ → Bool) (run bytes : List ℕ) (stack : List Due) →
+    ((b : ℕ) → p b ≡ true → react x b ≡ takes (x ∷ [])) →
     list_all p run ≡ true → accepts (run ++ bytes) (x ∷ stack) ≡ accepts bytes (x ∷ stack)
 run_by x p [] bytes stack take h = refl
 run_by x p (b ∷ run) bytes stack take h =
     let k = two_parts (p b) (list_all p run) h in
     taken x b (x ∷ []) (run ++ bytes) stack (take b k.0) ∙ run_by x p run bytes stack take k.1
 
-pub white_skip : (bytes : List ℕ) (stack : List Due) → stops is_white bytes ≡ true → accepts bytes (white ∷ stack) ≡ accepts bytes stack
+pub white_skip : (bytes : List ℕ) (stack : List Due) → stops is_white bytes ≡ true →
+    accepts bytes (white ∷ stack) ≡ accepts bytes stack
 white_skip bytes stack s = skip_by white is_white bytes stack refl (λ b e. rw e refl) s
 
-pub white_run : (run bytes : List ℕ) (stack : List Due) → IsWhite run → accepts (run ++ bytes) (white ∷ stack) ≡ accepts bytes (white ∷ stack)
+pub white_run : (run bytes : List ℕ) (stack : List Due) → IsWhite run → accepts (run ++ bytes) (white ∷ stack) ≡ accepts
+    bytes (white ∷ stack)
 white_run run bytes stack h = run_by white is_white run bytes stack (λ b e. rw e refl) h
 
-pub digits_skip : (bytes : List ℕ) (stack : List Due) → stops is_digit bytes ≡ true → accepts bytes (digits ∷ stack) ≡ accepts bytes stack
+pub digits_skip : (bytes : List ℕ) (stack : List Due) → stops is_digit bytes ≡ true →
+    accepts bytes (digits ∷ stack) ≡ accepts bytes stack
 digits_skip bytes stack s = skip_by digits is_digit bytes stack refl (λ b e. rw e refl) s
 
 pub digits_run : (run bytes : List ℕ) (stack : List Due) → list_all is_digit run ≡ true → stops is_digit bytes ≡ true →
     accepts (run ++ bytes) (digits ∷ stack) ≡ accepts bytes stack
 digits_run run bytes stack h s = run_by digits is_digit run bytes stack (λ b e. rw e refl) h ∙ digits_skip bytes stack s
 
-pub point_skip : (bytes : List ℕ) (stack : List Due) → stops (λ b. b == 46) bytes ≡ true → accepts bytes (point ∷ stack) ≡ accepts bytes stack
+pub point_skip : (bytes : List ℕ) (stack : List Due) → stops (λ b. b == 46) bytes ≡ true →
+    accepts bytes (point ∷ stack) ≡ accepts bytes stack
 point_skip bytes stack s = skip_by point (λ b. b == 46) bytes stack refl (λ b e. rw e refl) s
 
-pub letter_skip : (bytes : List ℕ) (stack : List Due) → stops is_exponent_letter bytes ≡ true → accepts bytes (letter ∷ stack) ≡ accepts bytes stack
+pub letter_skip : (bytes : List ℕ) (stack : List Due) → stops is_exponent_letter bytes ≡ true →
+    accepts bytes (letter ∷ stack) ≡ accepts bytes stack
 letter_skip bytes stack s = skip_by letter is_exponent_letter bytes stack refl (λ b e. rw e refl) s
 
 -- ---- words
@@ -171,6 +184,7 @@ letter_skip bytes stack s = skip_by letter is_exponent_letter bytes stack refl (
 pub byte_run : (b : ℕ) (bytes : List ℕ) (stack : List Due) → accepts (b ∷ bytes) (byte b ∷ stack) ≡ accepts bytes stack
 byte_run b bytes stack = taken (byte b) b [] bytes stack (rw (eq-eqb b b refl) refl)
 
-pub word_run : (word bytes : List ℕ) (stack : List Due) → accepts (word ++ bytes) (map byte word ++ stack) ≡ accepts bytes stack
+pub word_run : (word bytes : List ℕ) (stack : List Due) → accepts (word ++ bytes) (map byte word ++ stack) ≡ accepts
+    bytes stack
 word_run [] bytes stack = refl
 word_run (b ∷ word) bytes stack = byte_run b (word ++ bytes) (map byte word ++ stack) ∙ word_run word bytes stack

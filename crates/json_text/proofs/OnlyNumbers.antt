@@ -9,16 +9,20 @@ use Rattle.json_text.specs.Reading.{Read, unexpected, digits_at, int_at, fractio
 use Rattle.json_text.proofs.Spelled.{stops, front_len, ends_value, no_digit, no_point, no_letter}
 
 digits_by : (bytes : List ℕ) (f : Fault) (n m : ℕ) → n ≡ suc m →
-    ◌≡◌ {A = Read (List ℕ)} (cond (n == 0) (Err f) (Ok (take n bytes, drop n bytes))) (Ok (take (suc m) bytes, drop (suc m) bytes))
+    ◌≡◌ {A = Read (List ℕ)} (cond (n == 0) (Err f) (Ok (take n bytes, drop n bytes)))
+    (Ok (take (suc m) bytes, drop (suc m) bytes))
 digits_by bytes f n m e = rw (e, ne_eqb (suc m) 0 (λ z. omega arith)) refl
 
-digits_here : (first : ℕ) (others rest : List ℕ) → list_all is_digit (first ∷ others) ≡ true → stops is_digit rest ≡ true →
+digits_here : (first : ℕ) (others rest : List ℕ) → list_all is_digit (first ∷ others) ≡ true →
+    stops is_digit rest ≡ true →
     digits_at (first ∷ others ++ rest) ≡ Ok (first ∷ others, rest)
 unfolding digits_at
 digits_here first others rest h s =
     let bytes = first ∷ others ++ rest in
-    digits_by bytes (unexpected bytes) (prefix_len is_digit bytes) (length others) (front_len is_digit (first ∷ others) rest h s)
-    ∙ ap (λ (x : List ℕ). Ok (x, drop (suc (length others)) bytes)) (take_at (first ∷ others) rest (suc (length others)) refl)
+    digits_by bytes (unexpected bytes) (prefix_len is_digit bytes) (length others)
+    (front_len is_digit (first ∷ others) rest h s)
+    ∙ ap (λ (x : List ℕ). Ok (x, drop (suc (length others)) bytes))
+    (take_at (first ∷ others) rest (suc (length others)) refl)
     ∙ ap (λ (x : List ℕ). Ok (first ∷ others, x)) (drop_at (first ∷ others) rest (suc (length others)) refl)
 
 int_by : (b : ℕ) (rest : List ℕ) (t : Bool) → (b == 48) ≡ t → is_digit b ≡ true → stops is_digit rest ≡ true →
@@ -31,7 +35,8 @@ two_parts true true h = (refl, refl)
 two_parts true false h = absurd cc
 two_parts false y h = absurd cc
 
-int_here : (whole rest : List ℕ) → is_int whole ≡ true → stops is_digit rest ≡ true → int_at (whole ++ rest) ≡ Ok (whole, rest)
+int_here : (whole rest : List ℕ) → is_int whole ≡ true → stops is_digit rest ≡ true →
+    int_at (whole ++ rest) ≡ Ok (whole, rest)
 unfolding int_at
 int_here [] rest h s = absurd cc
 int_here (b ∷ []) rest h s = int_by b rest (b == 48) refl h s
@@ -43,7 +48,8 @@ fraction_by : (b : ℕ) (bytes : List ℕ) → not (b == 46) ≡ true → fracti
 unfolding fraction_at
 fraction_by b bytes h = rw (not-true (b == 46) h) refl
 
-fraction_here : (fraction rest : List ℕ) → list_all is_digit fraction ≡ true → stops is_digit rest ≡ true → stops (λ b. b == 46) rest ≡ true →
+fraction_here : (fraction rest : List ℕ) → list_all is_digit fraction ≡ true → stops is_digit rest ≡ true →
+    stops (λ b. b == 46) rest ≡ true →
     fraction_at (fraction_text fraction ++ rest) ≡ Ok (fraction, rest)
 unfolding fraction_at
 fraction_here [] [] h s p = refl
@@ -60,7 +66,8 @@ sign_by b bytes h = rw (no_minus b h, no_plus b h) refl
     no_plus : (b : ℕ) → is_digit b ≡ true → (b == 43) ≡ false
     no_plus b h = grind arith
 
-sign_with : (s b : ℕ) (bytes : List ℕ) (p m : Bool) → (s == 43) ≡ p → (s == 45) ≡ m → (p || m) ≡ true → sign_of (s ∷ b ∷ bytes) ≡ (m, b ∷ bytes)
+sign_with : (s b : ℕ) (bytes : List ℕ) (p m : Bool) → (s == 43) ≡ p → (s == 45) ≡ m →
+    (p || m) ≡ true → sign_of (s ∷ b ∷ bytes) ≡ (m, b ∷ bytes)
 sign_with s b bytes p true e f h = rw f refl
 sign_with s b bytes true false e f h = rw (f, e) refl
 sign_with s b bytes false false e f h = absurd cc
@@ -76,12 +83,15 @@ abbrev read_down : List ℕ → List ℕ → Bool
 read_down sign [] = false
 read_down sign (b ∷ bs) = is_minus sign
 
-no_exponent : (b : ℕ) (rest : List ℕ) → not (is_exponent_letter b) ≡ true → exponent_at (b ∷ rest) ≡ Ok ((false, []), b ∷ rest)
+no_exponent : (b : ℕ) (rest : List ℕ) → not (is_exponent_letter b) ≡ true →
+    exponent_at (b ∷ rest) ≡ Ok ((false, []), b ∷ rest)
 unfolding exponent_at
 no_exponent b rest h = rw (not-true (is_exponent_letter b) h) refl
 
-exponent_as : (letter : ℕ) (bytes : List ℕ) (down : Bool) (more digits rest : List ℕ) → is_exponent_letter letter ≡ true →
-    sign_of bytes ≡ (down, more) → digits_at more ≡ Ok (digits, rest) → exponent_at (letter ∷ bytes) ≡ Ok ((down, digits), rest)
+exponent_as : (letter : ℕ) (bytes : List ℕ) (down : Bool) (more digits rest : List ℕ) →
+    is_exponent_letter letter ≡ true →
+    sign_of bytes ≡ (down, more) → digits_at more ≡ Ok (digits, rest) →
+    exponent_at (letter ∷ bytes) ≡ Ok ((down, digits), rest)
 unfolding exponent_at
 exponent_as letter bytes down more digits rest l s d = rw (l, s, d) refl
 
@@ -93,8 +103,10 @@ exponent_here letter sign [] [] l s h e = refl
 exponent_here letter sign [] (b ∷ rest) l s h e = no_exponent b rest (no_letter (b ∷ rest) e)
 exponent_here letter sign (b ∷ bs) rest l s h e =
     let p = two_parts (is_digit b) (list_all is_digit bs) h in
-    let signed : sign_of (sign ++ b ∷ bs ++ rest) ≡ (is_minus sign, b ∷ bs ++ rest) = ap (λ (x : List ℕ). sign_of x) (append_assoc sign (b ∷ bs) rest) ∙ sign_here sign b (bs ++ rest) s p.0 in
-    exponent_as letter (sign ++ b ∷ bs ++ rest) (is_minus sign) (b ∷ bs ++ rest) (b ∷ bs) rest l signed (digits_here b bs rest h (no_digit rest e))
+    let signed : sign_of (sign ++ b ∷ bs ++ rest) ≡ (is_minus sign, b ∷ bs ++ rest) = ap (λ (x : List ℕ). sign_of x)
+    (append_assoc sign (b ∷ bs) rest) ∙ sign_here sign b (bs ++ rest) s p.0 in
+    exponent_as letter (sign ++ b ∷ bs ++ rest) (is_minus sign) (b ∷ bs ++ rest)
+    (b ∷ bs) rest l signed (digits_here b bs rest h (no_digit rest e))
 
 pub letter_no_digit : (b : ℕ) → is_exponent_letter b ≡ true → not (is_digit b) ≡ true
 letter_no_digit b h = grind arith
@@ -102,17 +114,20 @@ letter_no_digit b h = grind arith
 pub letter_no_point : (b : ℕ) → is_exponent_letter b ≡ true → not (b == 46) ≡ true
 letter_no_point b h = grind arith
 
-pub exponent_no_digit : (letter : ℕ) (sign exponent rest : List ℕ) → is_exponent_letter letter ≡ true → ends_value rest ≡ true →
+pub exponent_no_digit : (letter : ℕ) (sign exponent rest : List ℕ) → is_exponent_letter letter ≡ true →
+    ends_value rest ≡ true →
     stops is_digit (exponent_text letter sign exponent ++ rest) ≡ true
 exponent_no_digit letter sign [] rest l e = no_digit rest e
 exponent_no_digit letter sign (b ∷ bs) rest l e = letter_no_digit letter l
 
-pub exponent_no_point : (letter : ℕ) (sign exponent rest : List ℕ) → is_exponent_letter letter ≡ true → ends_value rest ≡ true →
+pub exponent_no_point : (letter : ℕ) (sign exponent rest : List ℕ) → is_exponent_letter letter ≡ true →
+    ends_value rest ≡ true →
     stops (λ b. b == 46) (exponent_text letter sign exponent ++ rest) ≡ true
 exponent_no_point letter sign [] rest l e = no_point rest e
 exponent_no_point letter sign (b ∷ bs) rest l e = letter_no_point letter l
 
-pub fraction_no_digit : (fraction rest : List ℕ) → stops is_digit rest ≡ true → stops is_digit (fraction_text fraction ++ rest) ≡ true
+pub fraction_no_digit : (fraction rest : List ℕ) → stops is_digit rest ≡ true →
+    stops is_digit (fraction_text fraction ++ rest) ≡ true
 fraction_no_digit [] rest s = s
 fraction_no_digit (b ∷ bs) rest s = refl
 
@@ -145,8 +160,10 @@ same_worth minus whole fraction sign [] = by (is_minus sign)
     by false = refl
 same_worth minus whole fraction sign (b ∷ bs) = refl
 
-number_as : (bytes : List ℕ) (minus : Bool) (more whole r1 fraction r2 : List ℕ) (down : Bool) (exponent rest : List ℕ) (n : ℤ) →
-    minus_of bytes ≡ (minus, more) → int_at more ≡ Ok (whole, r1) → fraction_at r1 ≡ Ok (fraction, r2) → exponent_at r2 ≡ Ok ((down, exponent), rest) →
+number_as : (bytes : List ℕ) (minus : Bool) (more whole r1 fraction r2 : List ℕ) (down : Bool) (exponent rest : List ℕ)
+    (n : ℤ) →
+    minus_of bytes ≡ (minus, more) → int_at more ≡ Ok (whole, r1) → fraction_at r1 ≡ Ok (fraction, r2) →
+    exponent_at r2 ≡ Ok ((down, exponent), rest) →
     worth minus whole fraction down exponent ≡ Some n → number_at bytes ≡ Ok (n, rest)
 unfolding number_at
 number_as bytes minus more whole r1 fraction r2 down exponent rest n m i f x w = rw (m, i, f, x, w) refl
@@ -154,15 +171,19 @@ number_as bytes minus more whole r1 fraction r2 down exponent rest n m i f x w =
 regroup : (a b c d rest : List ℕ) → a ++ b ++ c ++ d ++ rest ≡ a ++ (b ++ (c ++ (d ++ rest)))
 regroup a b c d rest = simp append_assoc
 
-pub number_here : (text : List ℕ) (n : ℤ) (rest : List ℕ) → IsNumber text (Some n) → ends_value rest ≡ true → number_at (text ++ rest) ≡ Ok (n, rest)
+pub number_here : (text : List ℕ) (n : ℤ) (rest : List ℕ) → IsNumber text (Some n) → ends_value rest ≡ true →
+    number_at (text ++ rest) ≡ Ok (n, rest)
 number_here text n rest (l, ok, spelled, w) e =
     let x = exponent_text l.letter l.sign l.exponent ++ rest in
     let f = fraction_text l.fraction ++ x in
     let s = exponent_no_digit l.letter l.sign l.exponent rest ok.letter e in
     let p = exponent_no_point l.letter l.sign l.exponent rest ok.letter e in
-    let bytes : text ++ rest ≡ cond l.minus (45 ∷ []) [] ++ (l.whole ++ f) = ap (λ (y : List ℕ). y ++ rest) spelled ∙ regroup (cond l.minus (45 ∷ []) []) l.whole (fraction_text l.fraction) (exponent_text l.letter l.sign l.exponent) rest in
+    let bytes : text ++ rest ≡ cond l.minus (45 ∷ []) [] ++ (l.whole ++ f) = ap (λ (y : List ℕ). y ++ rest) spelled
+    ∙ regroup (cond l.minus (45 ∷ []) []) l.whole (fraction_text l.fraction)
+    (exponent_text l.letter l.sign l.exponent) rest in
     rw bytes
-    (number_as (cond l.minus (45 ∷ []) [] ++ (l.whole ++ f)) l.minus (l.whole ++ f) l.whole f l.fraction x (read_down l.sign l.exponent) l.exponent rest n
+    (number_as (cond l.minus (45 ∷ []) [] ++ (l.whole ++ f)) l.minus (l.whole ++ f) l.whole f l.fraction
+    x (read_down l.sign l.exponent) l.exponent rest n
     (minus_here l.minus l.whole f ok.whole)
     (int_here l.whole f ok.whole (fraction_no_digit l.fraction x s))
     (fraction_here l.fraction x ok.fraction s p)

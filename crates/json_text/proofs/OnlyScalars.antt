@@ -32,9 +32,11 @@ opens_stops text tail o =
     let no : is_white o.byte ≡ false = false_from_ne_true (is_white o.byte) (λ h. o.known (white_other o.byte h)) in
     rw o.is (not_from_false (is_white o.byte) no)
 
-pub closing_gone : (closing : ℕ) (text tail : List ℕ) → lead_by closing ≡ lead.Other → Opens text → strip closing (text ++ tail) ≡ None
+pub closing_gone : (closing : ℕ) (text tail : List ℕ) → lead_by closing ≡ lead.Other → Opens text →
+    strip closing (text ++ tail) ≡ None
 closing_gone closing text tail c o =
-    let no : (o.byte == closing) ≡ false = false_from_ne_true (o.byte == closing) (λ h. o.known (ap (λ (b : ℕ). lead_by b) (eqb-true o.byte closing h) ∙ c)) in
+    let no : (o.byte == closing) ≡ false = false_from_ne_true (o.byte == closing)
+    (λ h. o.known (ap (λ (b : ℕ). lead_by b) (eqb-true o.byte closing h) ∙ c)) in
     rw (o.is, no) refl
 
 -- what a whole number begins with
@@ -58,14 +60,29 @@ pub record NumberOpens (text : List ℕ) : Type 0 where
   pub is : text ≡ byte ∷ others
   pub lead : lead_by byte ≡ lead.Number
 
-pub number_by : (minus : Bool) (whole tail : List ℕ) → Digit whole → NumberOpens (cond minus (45 ∷ []) [] ++ whole ++ tail)
+pub number_by : (minus : Bool) (whole tail : List ℕ) → Digit whole →
+    NumberOpens (cond minus (45 ∷ []) [] ++ whole ++ tail)
 number_by true whole tail d = record { byte = 45; others = whole ++ tail; is = refl; lead = refl }
-number_by false whole tail d = record { byte = d.byte; others = d.others ++ tail; is = ap (λ (x : List ℕ). x ++ tail) d.is; lead = digit_lead d.byte d.digit }
+number_by false whole tail d =
+    record {
+      byte = d.byte;
+      others = d.others ++ tail;
+      is = ap (λ (x : List ℕ). x ++ tail) d.is;
+      lead = digit_lead
+          d.byte d.digit;
+    }
 
 number_opens : (text : List ℕ) (n : ℤ) → IsNumber text (Some n) → NumberOpens text
 number_opens text n (l, ok, spelled, w) =
-    let o = number_by l.minus l.whole (fraction_text l.fraction ++ exponent_text l.letter l.sign l.exponent) (int_digit l.whole ok.whole) in
-    record { byte = o.byte; others = o.others; is = spelled ∙ regroup (cond l.minus (45 ∷ []) [] ++ l.whole) (fraction_text l.fraction) (exponent_text l.letter l.sign l.exponent) ∙ o.is; lead = o.lead }
+    let o = number_by l.minus l.whole (fraction_text l.fraction ++ exponent_text l.letter l.sign l.exponent)
+    (int_digit l.whole ok.whole) in
+    record {
+      byte = o.byte;
+      others = o.others;
+      is = spelled ∙ regroup (cond l.minus (45 ∷ []) [] ++ l.whole)
+          (fraction_text l.fraction) (exponent_text l.letter l.sign l.exponent) ∙ o.is;
+      lead = o.lead;
+    }
   where
     regroup : (a c d : List ℕ) → a ++ c ++ d ≡ a ++ (c ++ d)
     regroup a c d = append_assoc a c d
@@ -84,7 +101,8 @@ pub record ScalarRead (text : List ℕ) (v : Node) (rest : List ℕ) : Type 0 wh
   pub flat : IsFlat lead
   pub read : scalar_at lead (text ++ rest) ≡ Ok (v, rest)
 
-pub scalar_here : (text : List ℕ) (v : Node) (rest : List ℕ) → IsScalar text v → IsUtf8 (text ++ rest) → ends_value rest ≡ true → ScalarRead text v rest
+pub scalar_here : (text : List ℕ) (v : Node) (rest : List ℕ) → IsScalar text v → IsUtf8 (text ++ rest) →
+    ends_value rest ≡ true → ScalarRead text v rest
 unfolding scalar_at IsFlat
 scalar_here text v rest (inl (t, is)) u e =
     rw (t, is) (record { lead = lead.Null; is = refl; flat = tt; read = rw (word_here null_text rest) refl })
@@ -94,19 +112,39 @@ scalar_here text v rest (inr (inr (inl (t, is)))) u e =
     rw (t, is) (record { lead = lead.False; is = refl; flat = tt; read = rw (word_here false_text rest) refl })
 scalar_here text v rest (inr (inr (inr (inl (n, number, is))))) u e =
     let o = number_opens text n number in
-    rw is (record { lead = lead.Number; is = rw o.is o.lead; flat = tt; read = rw (number_here text n rest number e) refl })
+    rw is (record {
+      lead = lead.Number;
+      is = rw o.is o.lead;
+      flat = tt;
+      read = rw (number_here text n rest number e)
+          refl;
+    })
 scalar_here text v rest (inr (inr (inr (inr (t, string, is))))) u e =
     let s = string_here text t rest string u in
     rw is (record { lead = lead.Quote; is = ap (λ (x : List ℕ). lead_of x) s.0; flat = tt; read = rw s.1 refl })
 
 pub string_opens : (text t : List ℕ) → IsString text (Some t) → Opens text
-string_opens text t (chars, are, spelled, is) = record { byte = 34; others = drop 1 text; is = spelled ∙ ap (λ (x : List ℕ). 34 ∷ drop 1 x) (sym spelled); known = λ z. cc }
+string_opens text t (chars, are, spelled, is) =
+    record {
+      byte = 34;
+      others = drop 1 text;
+      is = spelled ∙ ap (λ (x : List ℕ). 34 ∷ drop 1 x)
+          (sym spelled);
+      known = λ z. cc;
+    }
 
 pub scalar_opens : (text : List ℕ) (v : Node) → IsScalar text v → Opens text
 scalar_opens text v (inl (t, is)) = record { byte = 110; others = drop 1 null_text; is = t; known = λ z. cc }
 scalar_opens text v (inr (inl (t, is))) = record { byte = 116; others = drop 1 true_text; is = t; known = λ z. cc }
-scalar_opens text v (inr (inr (inl (t, is)))) = record { byte = 102; others = drop 1 false_text; is = t; known = λ z. cc }
+scalar_opens text v (inr (inr (inl (t, is)))) =
+    record { byte = 102; others = drop 1 false_text; is = t; known = λ z. cc }
 scalar_opens text v (inr (inr (inr (inl (n, number, is))))) =
     let o = number_opens text n number in
-    record { byte = o.byte; others = o.others; is = o.is; known = λ z. let y : lead.Number ≡ lead.Other = sym o.lead ∙ z in cc }
+    record {
+      byte = o.byte;
+      others = o.others;
+      is = o.is;
+      known = λ z. let y : lead.Number ≡ lead.Other = sym o.lead
+          ∙ z in cc;
+    }
 scalar_opens text v (inr (inr (inr (inr (t, string, is))))) = string_opens text t string

@@ -10,13 +10,16 @@ use Rattle.json_text.proofs.Fronts.{bound, ok_pair}
 use Rattle.json_text.proofs.FoundTexts.{piece_ok}
 
 end_some_by : (b : ℕ) (bytes text rest : List ℕ) (q s : Bool) →
-    ◌≡◌ {A = Read (List ℕ × Bool)} (cond q (Ok (([], false), bytes)) (cond s (escape_at (suc (length bytes)) bytes >>= λ c. Ok ((encode_utf8 c.0, true), c.1)) (Err (unexpected (b ∷ bytes))))) (Ok ((text, true), rest)) → 0 < length text
+    ◌≡◌ {A = Read (List ℕ × Bool)} (cond q (Ok (([], false), bytes))
+    (cond s (escape_at (suc (length bytes)) bytes >>= λ c. Ok ((encode_utf8 c.0, true), c.1))
+    (Err (unexpected (b ∷ bytes))))) (Ok ((text, true), rest)) → 0 < length text
 end_some_by b bytes text rest true s h =
     let (both, left) = ok_pair {A = List ℕ × Bool} ([], false) (text, true) bytes rest h in
     let never : false ≡ true = ap (λ (x : List ℕ × Bool). x.1) both in
     absurd cc
 end_some_by b bytes text rest false true h =
-    let p = bound {B = (List ℕ × Bool) × List ℕ} (escape_at (suc (length bytes)) bytes) (λ c. Ok ((encode_utf8 c.0, true), c.1)) ((text, true), rest) h in
+    let p = bound {B = (List ℕ × Bool) × List ℕ} (escape_at (suc (length bytes)) bytes)
+    (λ c. Ok ((encode_utf8 c.0, true), c.1)) ((text, true), rest) h in
     let (both, left) = ok_pair {A = List ℕ × Bool} (encode_utf8 p.value.0, true) (text, true) p.value.1 rest p.second in
     let made : encode_utf8 p.value.0 ≡ text = ap (λ (x : List ℕ × Bool). x.0) both in
     let len = length-encode p.value.0 in
@@ -33,7 +36,8 @@ end_some (b ∷ bytes) text rest h = end_some_by b bytes text rest (b == 34) (b 
 piece_some : (bytes text rest : List ℕ) → piece_at bytes ≡ Ok ((text, true), rest) → 0 < length text
 unfolding piece_at
 piece_some bytes text rest h =
-    let p = bound (run_at bytes) (λ run. end_at run.1 >>= λ end. Ok ((run.0 ++ end.0.0, end.0.1), end.1)) ((text, true), rest) h in
+    let p = bound (run_at bytes) (λ run. end_at run.1 >>= λ end. Ok ((run.0 ++ end.0.0, end.0.1), end.1))
+    ((text, true), rest) h in
     let x = p.value in
     let q = bound (end_at x.1) (λ end. Ok ((x.0 ++ end.0.0, end.0.1), end.1)) ((text, true), rest) p.second in
     let y = q.value in
@@ -50,7 +54,8 @@ char_some (plain b) bytes = omega arith
 char_some (short b) bytes = omega arith
 char_some (unit a b c d) bytes = omega arith
 
-no_text : (cs : List Char) (text rest : List ℕ) → 0 < length text → ((others : List Char) → text_of (cs ++ others) ≡ after text (text_of others)) →
+no_text : (cs : List Char) (text rest : List ℕ) → 0 < length text →
+    ((others : List Char) → text_of (cs ++ others) ≡ after text (text_of others)) →
     length rest < length (flat_map char_text cs ++ rest)
 no_text [] text rest some means =
     let e : Some [] ≡ Some (text ++ []) = means [] in

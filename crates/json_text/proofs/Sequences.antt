@@ -15,7 +15,8 @@ use Rattle.json_text.proofs.OnlyStrings.{low_here}
 use Rattle.json_text.proofs.Spelled.{stops, cut_front, cut_behind}
 
 -- no longer front is UTF-8
-longest_by : (bs : List ℕ) (n k : ℕ) (t s : Bool) → is_utf8 (take (suc n) bs) ≡ t → nat_le k n ≡ s → k ≤ suc n → IsUtf8 (take k bs) →
+longest_by : (bs : List ℕ) (n k : ℕ) (t s : Bool) → is_utf8 (take (suc n) bs) ≡ t → nat_le k n ≡ s → k ≤ suc n →
+    IsUtf8 (take k bs) →
     (k ≤ n → k ≤ valid_len_up_to bs n) → k ≤ cond t (suc n) (valid_len_up_to bs n)
 longest_by bs n k true s e f le u ih = le
 longest_by bs n k false true e f le u ih = ih (leb-true k n f)
@@ -27,7 +28,8 @@ longest_by bs n k false false e f le u ih =
 
 longest_up_to : (bs : List ℕ) (n k : ℕ) → k ≤ n → IsUtf8 (take k bs) → k ≤ valid_len_up_to bs n
 longest_up_to bs zero k le u = le
-longest_up_to bs (suc n) k le u = longest_by bs n k (is_utf8 (take (suc n) bs)) (nat_le k n) refl refl le u (λ below. longest_up_to bs n k below u)
+longest_up_to bs (suc n) k le u = longest_by bs n k (is_utf8 (take (suc n) bs)) (nat_le k n) refl refl le
+    u (λ below. longest_up_to bs n k below u)
 
 front_by : (bs : List ℕ) (n : ℕ) (t : Bool) → is_utf8 (take (suc n) bs) ≡ t → IsUtf8 (take (valid_len_up_to bs n) bs) →
     IsUtf8 (take (cond t (suc n) (valid_len_up_to bs n)) bs)
@@ -57,7 +59,8 @@ not_zero : (n : ℕ) → not (n == 0) ≡ true → 0 < n
 not_zero zero h = absurd cc
 not_zero (suc n) h = omega arith
 
-pub no_character : (bytes : List ℕ) → ((utf8_valid_len bytes == 0) && not (length bytes == 0)) ≡ true → IsValidUpTo bytes 0
+pub no_character : (bytes : List ℕ) → ((utf8_valid_len bytes == 0) && not (length bytes == 0)) ≡ true →
+    IsValidUpTo bytes 0
 no_character bytes h =
     let p = two_parts (utf8_valid_len bytes == 0) (not (length bytes == 0)) h in
     let none = eqb-true (utf8_valid_len bytes) 0 p.0 in
@@ -70,7 +73,8 @@ no_character bytes h =
           absurd (omega arith);
     }
 
-pub some_character : (bytes : List ℕ) → ((utf8_valid_len bytes == 0) && not (length bytes == 0)) ≡ false → IsValidUpTo bytes 0 → ⊥
+pub some_character : (bytes : List ℕ) → ((utf8_valid_len bytes == 0) && not (length bytes == 0)) ≡ false →
+    IsValidUpTo bytes 0 → ⊥
 some_character bytes h v =
     let none = eq-eqb (utf8_valid_len bytes) 0 (utf8_valid_len-IsValidUpTo bytes 0 v) in
     let some : (length bytes == 0) ≡ false = ne_eqb (length bytes) 0 (λ z. let s = v.short in omega arith) in
@@ -84,7 +88,8 @@ take_past [] rest m k e = let same : m ≡ k = omega arith in ap (λ (n : ℕ). 
 take_past (b ∷ front) rest zero k e = absurd (omega arith)
 take_past (b ∷ front) rest (suc m) k e = ap (λ (x : List ℕ). b ∷ x) (take_past front rest m k (omega arith))
 
-pub valid_behind : (front rest : List ℕ) → IsUtf8 front → IsValidUpTo rest 0 → IsValidUpTo (front ++ rest) (length front)
+pub valid_behind : (front rest : List ℕ) → IsUtf8 front → IsValidUpTo rest 0 →
+    IsValidUpTo (front ++ rest) (length front)
 valid_behind front rest f v =
     let l = length-append front rest in
     let s = v.short in
@@ -107,7 +112,8 @@ valid_here front rest f v =
       front = IsUtf8-nil;
       longest = λ m gt u.
           let more : length front < length front + m = omega arith in
-          v.longest (length front + m) more (subst IsUtf8 (sym (take_past front rest (length front + m) m refl)) (IsUtf8-append front (take m rest) f u));
+          v.longest (length front + m) more (subst IsUtf8 (sym (take_past front rest (length front + m) m refl))
+          (IsUtf8-append front (take m rest) f u));
     }
 
 -- ---- a run of characters that isn't UTF-8
@@ -133,12 +139,14 @@ run_front bad rest zero s u = subst IsUtf8 (append-nil bad) u
 run_front bad [] (suc k) s u = subst IsUtf8 (append-nil bad) u
 run_front bad (b ∷ rest) (suc k) s u = cut_front bad b (take k rest) (plain_not b s) u
 
-pub run_stops : (front bad rest : List ℕ) → utf8_valid_len (front ++ bad) ≡ length front → 0 < length bad → stops is_plain rest ≡ true →
+pub run_stops : (front bad rest : List ℕ) → utf8_valid_len (front ++ bad) ≡ length front → 0 < length bad →
+    stops is_plain rest ≡ true →
     IsValidUpTo (bad ++ rest) 0
 run_stops front bad rest e some s =
     let l = length-append bad rest in
     let n = length-append front bad in
-    let front_is : IsUtf8 front = subst IsUtf8 (ap (λ (k : ℕ). take k (front ++ bad)) e ∙ take_at front bad (length front) refl) (valid_front (front ++ bad)) in
+    let front_is : IsUtf8 front = subst IsUtf8 (ap (λ (k : ℕ). take k (front ++ bad)) e
+    ∙ take_at front bad (length front) refl) (valid_front (front ++ bad)) in
     record {
       short = omega arith;
       front = IsUtf8-nil;
@@ -150,7 +158,8 @@ run_stops front bad rest e some s =
         let within = leb-true m (length bad) h in
         let n = length-append front bad in
         let part : IsUtf8 (take m bad) = subst IsUtf8 (take-append-le m bad rest within) u in
-        let longer : IsUtf8 (take (length front + m) (front ++ bad)) = subst IsUtf8 (sym (take_past front bad (length front + m) m refl)) (IsUtf8-append front (take m bad) f part) in
+        let longer : IsUtf8 (take (length front + m) (front ++ bad)) = subst
+        IsUtf8 (sym (take_past front bad (length front + m) m refl)) (IsUtf8-append front (take m bad) f part) in
         let le = valid_longest (front ++ bad) (length front + m) (omega arith) longer in
         omega arith
     by m gt u f false h =
@@ -164,19 +173,28 @@ run_stops front bad rest e some s =
 
 -- ---- surrogates
 
-lone_by : (bytes : List ℕ) (u : ℕ) (behind : List ℕ) (h l : Bool) → Unit4 bytes u behind → is_high u ≡ h → is_low u ≡ l →
+lone_by : (bytes : List ℕ) (u : ℕ) (behind : List ℕ) (h l : Bool) → Unit4 bytes u behind → is_high u ≡ h →
+    is_low u ≡ l →
     cond h (pair_with u (low_at behind)) (cond l None (Some (u, behind))) ≡ None → LoneHere (92 ∷ 117 ∷ bytes)
-lone_by bytes u behind true l k e f none =
-    (u, behind, (k.a, k.b, k.c, k.d, k.are, sym k.worth, ap (λ (x : List ℕ). 92 ∷ 117 ∷ x) k.spelled), inr (e, λ low. by low))
+lone_by bytes u behind true l k e f none = (
+  u,
+  behind,
+  (k.a, k.b, k.c, k.d, k.are, sym k.worth, ap (λ (x : List ℕ). 92 ∷ 117 ∷ x) k.spelled),
+  inr (e, λ low. by low),
+)
   where
     by : LowHere behind → ⊥
     by (v, more, (a, b, c, d, are, worth, spelled), is) =
-        let found : low_at behind ≡ Some (v, more) = rw (spelled, worth) (low_here a b c d more are (subst (λ (x : ℕ). is_low x ≡ true) worth is)) in
-        let never : Some (pair_value u v, more) ≡ None = ap (λ (o : Option (ℕ × List ℕ)). pair_with u o) (sym found) ∙ none in
+        let found : low_at behind ≡ Some (v, more) = rw (spelled, worth)
+        (low_here a b c d more are (subst (λ (x : ℕ). is_low x ≡ true) worth is)) in
+        let never : Some (pair_value u v, more) ≡ None = ap (λ (o : Option (ℕ × List ℕ)). pair_with u o) (sym found)
+        ∙ none in
         absurd cc
-lone_by bytes u behind false true k e f none = (u, behind, (k.a, k.b, k.c, k.d, k.are, sym k.worth, ap (λ (x : List ℕ). 92 ∷ 117 ∷ x) k.spelled), inl f)
+lone_by bytes u behind false true k e f none =
+    (u, behind, (k.a, k.b, k.c, k.d, k.are, sym k.worth, ap (λ (x : List ℕ). 92 ∷ 117 ∷ x) k.spelled), inl f)
 lone_by bytes u behind false false k e f none = absurd cc
 
-pub lone : (bytes : List ℕ) (u : ℕ) (behind : List ℕ) → Unit4 bytes u behind → char_at u behind ≡ None → LoneHere (92 ∷ 117 ∷ bytes)
+pub lone : (bytes : List ℕ) (u : ℕ) (behind : List ℕ) → Unit4 bytes u behind → char_at u behind ≡ None →
+    LoneHere (92 ∷ 117 ∷ bytes)
 unfolding char_at
 lone bytes u behind k none = lone_by bytes u behind (is_high u) (is_low u) k refl refl none

@@ -19,7 +19,8 @@ IsQuoted bytes = (chars : List Char) × IsTrue (list_all is_char chars) × (byte
 
 -- member (section 4)
 abbrev pub IsPair : (List ℕ → Type 0) → List ℕ → Type 0
-IsPair IsText bytes = (name : List ℕ) × (value : List ℕ) × Padded IsQuoted name × Padded IsText value × (bytes ≡ name ++ 0x3A ∷ value)
+IsPair IsText bytes =
+    (name : List ℕ) × (value : List ℕ) × Padded IsQuoted name × Padded IsText value × (bytes ≡ name ++ 0x3A ∷ value)
 
 abbrev pub Every : (List ℕ → Type 0) → List (List ℕ) → Type 0
 Every IsPart [] = Unit {0}
@@ -27,7 +28,9 @@ Every IsPart (part ∷ parts) = IsPart part × Every IsPart parts
 
 -- what stands between brackets: white space, or parts with a comma between each two
 abbrev pub AreParts : (List ℕ → Type 0) → List ℕ → Type 0
-AreParts IsPart inner = IsWhite inner ⊎ ((part : List ℕ) × (parts : List (List ℕ)) × IsPart part × Every IsPart parts × (inner ≡ joined (part ∷ parts)))
+AreParts IsPart inner =
+    IsWhite inner
+    ⊎ ((part : List ℕ) × (parts : List (List ℕ)) × IsPart part × Every IsPart parts × (inner ≡ joined (part ∷ parts)))
 
 -- value (section 3), where it is no array and no object
 abbrev pub IsPlainValue : List ℕ → Type 0
@@ -52,7 +55,8 @@ BeginsWithin depth front = Begins (Padded (IsSpelled depth)) front
 -- the escape of a UTF-16 code unit (section 7) stands at the front, and these bytes behind it
 abbrev pub UnitHere : List ℕ → ℕ → List ℕ → Type 0
 UnitHere bytes u rest =
-    (a : ℕ) × (b : ℕ) × (c : ℕ) × (d : ℕ) × IsTrue (is_char (unit a b c d)) × (u ≡ unit_value a b c d) × (bytes ≡ char_text (unit a b c d) ++ rest)
+    (a : ℕ) × (b : ℕ) × (c : ℕ) × (d : ℕ) × IsTrue (is_char (unit a b c d)) × (u ≡ unit_value a b c d)
+    × (bytes ≡ char_text (unit a b c d) ++ rest)
 
 -- the whole escape of a low surrogate stands at the front
 abbrev pub LowHere : List ℕ → Type 0
@@ -60,7 +64,8 @@ LowHere bytes = (u : ℕ) × (rest : List ℕ) × UnitHere bytes u rest × IsTru
 
 -- the escape of a surrogate without its partner stands at the front
 abbrev pub LoneHere : List ℕ → Type 0
-LoneHere bytes = (u : ℕ) × (rest : List ℕ) × UnitHere bytes u rest × (IsTrue (is_low u) ⊎ (IsTrue (is_high u) × (LowHere rest → ⊥)))
+LoneHere bytes =
+    (u : ℕ) × (rest : List ℕ) × UnitHere bytes u rest × (IsTrue (is_low u) ⊎ (IsTrue (is_high u) × (LowHere rest → ⊥)))
 
 -- no number goes on with the byte behind it
 abbrev pub IsWhole : List ℕ → List ℕ → Type 0
@@ -108,12 +113,14 @@ CharDue front = BeginsRead (front ++ 0x78 ∷ [])
 -- what stands before the place is UTF-8, begins some JSON text that isn't too deep, and has no fault
 abbrev pub IsPlace : List ℕ → ℕ → Type 0
 IsPlace bytes place =
-    (place ≤ length bytes) × IsUtf8 (take place bytes) × BeginsWithin 128 (take place bytes) × IsClear (take place bytes)
+    (place ≤ length bytes)
+    × IsUtf8 (take place bytes) × BeginsWithin 128 (take place bytes) × IsClear (take place bytes)
 
 -- with its next byte what stands before the place begins no JSON text, and the bytes are none
 abbrev pub IsLongest : List ℕ → ℕ → Type 0
 IsLongest bytes place =
-    (depth : ℕ) → (place < length bytes → BeginsWithin depth (take (place + 1) bytes) → ⊥) × (Padded (IsSpelled depth) bytes → ⊥)
+    (depth : ℕ) →
+    (place < length bytes → BeginsWithin depth (take (place + 1) bytes) → ⊥) × (Padded (IsSpelled depth) bytes → ⊥)
 
 -- a surrogate without its partner is escaped in a string
 abbrev pub IsLone : List ℕ → ℕ → Type 0

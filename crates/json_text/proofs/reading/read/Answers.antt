@@ -9,7 +9,8 @@ pub returns-in-Ok-clause-found : goal.returns-in-Ok-clause-found
 returns-in-Ok-clause-found c = let e = c.in-Ok.node-is in found c.args.bytes.now _ c.in-Ok.ensures
 
 pub returns-in-Ok-clause-only : goal.returns-in-Ok-clause-only
-returns-in-Ok-clause-only c = let e = c.in-Ok.node-is in λ v is. ok_same _ v (sym c.in-Ok.ensures ∙ only c.args.bytes.now v is)
+returns-in-Ok-clause-only c = let e = c.in-Ok.node-is in
+    λ v is. ok_same _ v (sym c.in-Ok.ensures ∙ only c.args.bytes.now v is)
 
 pub returns-in-Err-Fault-clause-only : goal.returns-in-Err-Fault-clause-only
 returns-in-Err-Fault-clause-only c =
