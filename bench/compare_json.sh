@@ -16,7 +16,7 @@ build() {
     cp "$here/json_bench.rt.txt" "$work/crates/json_bench/src/main.rt"
     {
         echo "doc_model: sqlite_items"
-        echo "json_text: doc_model sqlite_items"
+        echo "json_text: doc_model sqlite_items itoa"
         echo "json_bench: json_text doc_model serde_json sqlite_items"
     } >"$work/crates.txt"
     (cd "$work/crates/json_bench" && rt run --jobs 2 >"$work/build.log" 2>&1)

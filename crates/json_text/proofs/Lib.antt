@@ -1,4 +1,5 @@
 pub mod Prefix
+pub mod Groups
 pub mod Turns
 pub mod Words
 pub mod Tens
@@ -45,6 +46,7 @@ pub mod ClearValues
 pub mod ClearPlaces
 pub mod CutPlaces
 pub mod Written
+pub mod EscapedRuns
 pub mod CanonicalNumbers
 pub mod CanonicalTexts
 pub mod CanonicalTrees

@@ -5,16 +5,12 @@ use Rattle.std.proofs.lemmas.Bool.{ne_eqb, and_from}
 use Rattle.std.proofs.lemmas.Nat.{pow-add}
 use Rattle.std.proofs.lemmas.List.Folds.{list_all_more}
 use Rattle.std.specs.Prelude.{OnOk, Result, Ok, Err}
-use Rattle.std.specs.List.{flat_map, list_all}
+use Rattle.std.specs.List.{list_all}
 use Rattle.doc_model.specs.declared.node.Node.TheVariants as node
 use Rattle.doc_model.specs.declared.node.Node.TheOpen.{Node-F}
 use Rattle.doc_model.specs.declared.node.Node.TheFolds.{fold-roll-Node}
 use Rattle.json_text.specs.Grammar.{joined, Member}
-use Rattle.json_text.specs.Canonical.{escaped, places_text, node_step, node_text, member_text, quoted, comma}
-
-pub quoted_whole : (all opened before yielded chars : List ℕ) → all ≡ opened ++ flat_map escaped yielded → opened ≡ before ++ 34 ∷ [] →
-    yielded ≡ chars → before ++ 34 ∷ (flat_map escaped chars ++ 34 ∷ []) ≡ all ++ 34 ∷ []
-quoted_whole all opened before yielded chars a o y = rw (a, o, y) (simp append_assoc)
+use Rattle.json_text.specs.Canonical.{places_text, node_step, node_text, member_text, quoted, comma}
 
 -- one part more
 joined_push : (parts : List (List ℕ)) (part : List ℕ) (some : Bool) → some ≡ not (length parts == 0) →

@@ -45,9 +45,13 @@ escaped c =
     else if c == 0x0D then 0x5C ∷ 0x72 ∷ []
     else coded c
 
+-- the characters of a text, each as it stands in a string
+abbrev pub escaped_text : List ℕ → List ℕ
+escaped_text text = flat_map escaped (chars text)
+
 -- a text between quotation marks
 abbrev pub quoted : List ℕ → List ℕ
-quoted text = 0x22 ∷ flat_map escaped (chars text) ++ 0x22 ∷ []
+quoted text = 0x22 ∷ escaped_text text ++ 0x22 ∷ []
 
 -- a node, from the texts of those in it
 abbrev pub node_step : Node-F (List ℕ) → List ℕ

@@ -3,6 +3,7 @@ ghost use Rattle.json_text.specs.Canonical.{places_text, point_text, magnitude_t
 
 use crate::quoting::put_ascii;
 use doc_model::Dec;
+use itoa::Buffer;
 use std::alloc::AllocError;
 
 /// How many units of 10^-18 make 1.
@@ -37,8 +38,8 @@ fn put_point(out: &mut String, rest: u64) -> Result<(), AllocError>
 fn put_magnitude(out: &mut String, units: u128) -> Result<(), AllocError>
     ensures { OnOk result (string_bytes out.new ≡ string_bytes out.old ++ magnitude_text units) }
 {
-    let whole = units / ONE;
-    write!(out, "{whole}")?;
+    let mut whole = Buffer::new();
+    out.push_str(whole.format(units / ONE))?;
     put_point(out, (units % ONE) as u64)
 }
 

@@ -8,6 +8,7 @@ mod fault;
 mod kept;
 mod lead;
 mod literal;
+mod plain;
 mod quoting;
 mod reading;
 mod scan;
