@@ -1,10 +1,11 @@
 -- The laws of a disk, for logs in memory.
 use Rattle.std.specs.Prelude.{ℕ, List, [], ◌∷◌, length, drop, slice_get, Option, Some, None, Vec, refl}
-use Rattle.std.proofs.Common.{inl, inr, ⊎_elim, arith, sym, subst}
+use Rattle.std.proofs.Common.{◌≡◌, ◌≢◌, inl, inr, ⊎_elim, arith, sym, subst, eqb, true, false}
+use Rattle.std.proofs.lemmas.Bool.Decides.{eqb_tells}
 use Rattle.std.proofs.Math.ListN.{drop_of_length-le}
 use Rattle.std.specs.declared.alloc.Global.{Global}
 use Rattle.std.specs.declared.snapshot.Snapshot.{Snapshot}
-use Rattle.disk_model.specs.Logs.{Image}
+use Rattle.disk_model.specs.Logs.{Image, HasLogOf}
 use Rattle.disk_memory.specs.declared.change.Change.{Change}
 use Rattle.disk_memory.specs.declared.change.Change.TheVariants.{Wrote, Cut, MissedWrite, MissedCut}
 use Rattle.disk_memory.specs.declared.log.MemoryLog.{MemoryLog}
@@ -42,3 +43,14 @@ only_now_of past logs image left =
 pub counts_now_of : (past : List (Snapshot (Vec MemoryLog Global))) (logs : List MemoryLog) (t : ℕ) (image : Image)
     → MayLeave logs image → LeftSince past logs t image
 counts_now_of past logs t image now = inl now
+
+pub each_alone_of : (logs : List MemoryLog) (file : ℕ) (other old new : Image) → MayLeave logs other → MayLeave logs old
+    → HasLogOf file other old new → MayLeave logs new
+each_alone_of logs file other old new may was is log =
+    ⊎_elim
+    (λ (here : (eqb log file ≡ true) × (log ≡ file)).
+    subst (λ n. LeavesOf (slice_get logs n) (new n)) (sym here.1)
+    (subst (λ (bytes : List ℕ). LeavesOf (slice_get logs file) bytes) (sym is.here) (may file)))
+    (λ (apart : (eqb log file ≡ false) × (log ≢ file)).
+    subst (λ (bytes : List ℕ). LeavesOf (slice_get logs log) bytes) (sym (is.others log apart.1)) (was log))
+    (eqb_tells log file)

@@ -4,7 +4,7 @@ ghost use Rattle.disk_model.specs.declared.disk.TheConstants.{LOG_COUNT};
 ghost use Rattle.disk_model.specs.Causes.{Rose};
 ghost use Rattle.disk_model.specs.Logs.{Image, ReadsAt, Settled};
 ghost use Rattle.disk_memory.specs.Held.{changes_of, read_of, bytes_of, AreLeft, MayLeave, LeftSince};
-ghost use Rattle.disk_memory.specs.Laws.{counts_now_of, only_now_of, reads_now_of};
+ghost use Rattle.disk_memory.specs.Laws.{counts_now_of, each_alone_of, only_now_of, reads_now_of};
 
 use crate::log::MemoryLog;
 use crate::logs::MemoryLogs;
@@ -95,6 +95,9 @@ impl Disk for MemoryDisk {
     ghost only_now = { λ d image left. only_now_of d.logs.past.items d.logs.logs.items image left };
 
     ghost reads_now = { λ d. reads_now_of d.logs.logs.items };
+
+    ghost each_alone = { λ d file other old new may was is.
+        each_alone_of d.logs.logs.items file other old new may was is };
 
     fn len(&mut self, file: u8) -> Result<u64, Failed> {
         let Verdict::Goes = self.meter.next() else {

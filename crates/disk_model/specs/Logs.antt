@@ -1,5 +1,6 @@
 -- The disk model: what calls do to the bytes of a log, and what a crash may leave of it.
 use Rattle.std.specs.Prelude.{◌≡◌, ◌⊎◌, ℕ, ◌+◌, ◌<◌, ◌≤◌, max, List, ◌++◌, length, take, drop, Option, IfSome}
+use Rattle.disk_model.specs.Changes.{OnlyAt}
 
 -- the bytes of each log
 abbrev pub Image : Type 0
@@ -30,6 +31,10 @@ pub record Torn (place n : ℕ) (old new : List ℕ) : Type 0 where
 -- a cut may or may not have happened
 abbrev pub MayCut : ℕ → List ℕ → List ℕ → Type 0
 MayCut len old new = Cuts len old new ⊎ (new ≡ old)
+
+-- an image with this log of another one
+abbrev pub HasLogOf : ℕ → Image → Image → Image → Type 0
+HasLogOf file other old new = OnlyAt file (λ _ bytes. bytes ≡ other file) old new
 
 -- each new outcome of a crash is an old one after this step
 abbrev pub Follows : (Image → Image → Type 0) → Outcomes → Outcomes → Type 0

@@ -2,7 +2,7 @@
 ghost use Rattle.std.specs.Prelude.{◌≡◌, ◌<◌, ◌≤◌, ◌+◌, ◌^◌, ℕ, length, take, Option, Result, IfOk, OnOk, OnErr, MatchResult, IfSome};
 ghost use Rattle.disk_model.specs.Causes.{HasCause};
 ghost use Rattle.disk_model.specs.Changes.{Any, OnlyAt, Becomes};
-ghost use Rattle.disk_model.specs.Logs.{Image, Writes, Cuts, Torn, MayCut, Follows, Settled, ReadsAt};
+ghost use Rattle.disk_model.specs.Logs.{Image, Writes, Cuts, Torn, MayCut, Follows, HasLogOf, Settled, ReadsAt};
 ghost use Rattle.disk_model.specs.Moments.{Elapses};
 
 use crate::failed::Failed;
@@ -102,4 +102,8 @@ pub trait Disk: Send + Drop {
 
     /// The disk as it reads is one of its images.
     ghost reads_now: { (disk : Self) → IfSome (seen disk) (may_leave disk) };
+
+    /// A crash leaves each log on its own: what it may leave of one goes with all that it may leave of the others.
+    ghost each_alone: { (disk : Self) (file : ℕ) (other : Image) (old : Image) (new : Image)
+        → may_leave disk other → may_leave disk old → HasLogOf file other old new → may_leave disk new };
 }
