@@ -32,6 +32,10 @@ IsTouched log = log.state ≡ Touched
 abbrev pub IsEmpty : Log → Type 0
 IsEmpty log = log.end ≡ 0
 
+-- a log of this file without frames, which isn't down
+abbrev pub IsBlank : ℕ → Log → Type 0
+IsBlank file log = (file_of log ≡ file) × IsUp log × IsEmpty log
+
 -- where it is told, the log's last gate lies in its file
 abbrev pub IsWithin : Log → Option Image → Type 0
 IsWithin log seen = IfSome seen (λ image. log.end + 1 ≤ length (image log.file))

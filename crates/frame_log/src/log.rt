@@ -1,12 +1,12 @@
 // A log of frames.
-ghost use Rattle.std.specs.Prelude.{◌≡◌, ◌≢◌, ◌<◌, ◌≤◌, ◌+◌, ◌^◌, ◌↔◌, length, IsTrue, IfErr, OnOk, OnErr, MatchResult};
+ghost use Rattle.std.specs.Prelude.{◌≡◌, ◌≢◌, ◌<◌, ◌≤◌, ◌+◌, ◌^◌, ◌↔◌, [], length, IsTrue, IsSome, IfOk, IfErr, OnOk, OnErr, MatchResult};
 ghost use Rattle.disk_model.specs.declared.disk.TheConstants.{LOG_COUNT};
 
 use crate::device::{keep, put};
 use crate::frame::{CLOSED, Frame, OPEN};
 use crate::refusal::LogRefusal;
 use crate::state::State;
-use disk_model::Disk;
+use disk_model::{Disk, Failed};
 
 /// How long a log may be.
 const LONGEST: u64 = 1 << 62;
@@ -23,8 +23,8 @@ pub struct Log {
 
 impl Log {
     ghost use Rattle.disk_model.specs.Causes.{HasCause};
-    ghost use Rattle.frame_log.specs.Standing.{file_of, end_of, IsUp, IsDown, IsTouched, IsEmpty};
-    ghost use Rattle.frame_log.specs.Standing.{IsWithin, IsTrimmed, KeepsToLog};
+    ghost use Rattle.frame_log.specs.Standing.{file_of, end_of, IsUp, IsDown, IsTouched, IsEmpty, IsBlank};
+    ghost use Rattle.frame_log.specs.Standing.{Holds, IsWithin, IsTrimmed, KeepsToLog, SparesOthers};
     ghost use Rattle.frame_log.specs.Calls.{NotAdmitted, AppendAnswers, ResetAnswers, ReviveAnswers};
     ghost use Rattle.frame_log.specs.Calls.{Adds, Empties, BringsBack, Shuts, TrimsFrames};
     ghost use Rattle.frame_log.specs.declared.refusal.LogRefusal.TheVariants.{Fault};
@@ -42,6 +42,23 @@ impl Log {
             end,
             state: State::Good,
         }
+    }
+
+    /// Makes an empty log of what a file holds, whatever that is.
+    ///
+    /// Four device calls and no memory: a closed gate is written at the start and synced, what is behind it is cut off
+    /// and synced.
+    pub fn blank<D: Disk>(disk: &mut D, file: u8) -> Result<Log, Failed>
+        requires { file < LOG_COUNT }
+        ensures log { IfOk result (λ log. IsBlank file log) }
+        ensures empty { IfOk result (λ log. IsSome (D.seen disk.old) → Holds D.seen D.may_leave log disk.new []) }
+        ensures within { IfOk result (λ log. IsWithin log (D.seen disk.new)) }
+        ensures others { SparesOthers D.seen D.may_leave D.moment D.left_since file disk.old disk.new }
+        ensures cause { HasCause (D.faults disk.old) (D.faults disk.new) result }
+    {
+        put(disk, file, 0, &[CLOSED])?;
+        keep(disk, file, 1)?;
+        Ok(Log::ending(file, 0))
     }
 
     /// Whether the log met a fault and wasn't revived.

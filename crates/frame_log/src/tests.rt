@@ -1,7 +1,7 @@
 // Crashes and faults at each device call, and the bytes of a log.
 ghost use Rattle.std.specs.Prelude.{◌<◌, length};
 
-use crate::{Frame, LogRefusal, ScanRefusal, scan};
+use crate::{Frame, Log, LogRefusal, ScanRefusal, scan};
 use disk_memory::{MemoryDisk, Meter, Plan, blank_logs};
 use disk_model::{Disk, Failed};
 use std::alloc::{AllocError, AllocFailed, Global};
@@ -158,6 +158,31 @@ fn a_broken_reset_is_done_to_its_end(rt: HostRuntime) -> Result<(), Fail> {
         assert!(rt; log.is_empty());
         assert_eq!(rt; (disk.len(0)?, disk.unsure(0)), (1, 0));
     }
+    Ok(())
+}
+
+// What is left of these bytes where a blank log is made of them: the device calls, the first two of which write the
+// bytes, the length, and how many frames.
+fn blanked(alloc: Global, bytes: &[u8]) -> Result<(u64, u64, usize), Fail>
+    requires { length bytes.now < 100 }
+{
+    let calls = meter(alloc, &[], None)?;
+    let mut disk = MemoryDisk::new(alloc, blank_logs(alloc)?, calls.share()?)?;
+    disk.cut(0, 0)?;
+    disk.write_at(0, 0, bytes)?;
+    let _ = Log::blank(&mut disk, 0)?;
+    Ok((calls.made(), disk.len(0)?, left(alloc, &disk, &[])?))
+}
+
+#[test]
+fn a_blank_log_takes_the_place_of_any_bytes(rt: HostRuntime) -> Result<(), Fail> {
+    let alloc = rt.alloc();
+    assert_eq!(rt; blanked(alloc, b"")?, (6, 1, 0));
+    assert_eq!(rt; blanked(alloc, b"\x4F")?, (6, 1, 0));
+    assert_eq!(rt;
+        blanked(alloc, b"\x4F\0\0\0\0\0\0\0\x02hi\0rest")?,
+        (6, 1, 0)
+    );
     Ok(())
 }
 
