@@ -57,7 +57,7 @@ Takes-then a x b y c p q =
 
 -- ---- numbers
 
-wide_takes : (width : ℕ) (bytes : List ℕ) (x : ℕ × List ℕ) → IsBytes bytes → wide_at width bytes ≡ Ok x
+pub wide_takes : (width : ℕ) (bytes : List ℕ) (x : ℕ × List ℕ) → IsBytes bytes → wide_at width bytes ≡ Ok x
     → Takes bytes (big_bytes width x.0) x.1 × (x.0 < 256 ^ width)
 unfolding wide_at
 wide_takes width bytes x fits e =

@@ -32,6 +32,13 @@ impl<'a> Reader<'a> {
         Reader { rest: bytes }
     }
 
+    /// Another reader of the bytes that are left, to look ahead.
+    pub fn ahead(&self) -> Reader<'a>
+        ensures { result ≡ self.now }
+    {
+        Reader { rest: self.rest }
+    }
+
     /// How many bytes are left.
     pub fn left(&self) -> usize
         ensures { result ≡ length self.now }
