@@ -1,0 +1,15 @@
+pub mod Truths
+pub mod Distinct
+pub mod Steps
+pub mod IndexReads
+pub mod RootReads
+pub mod Loops
+pub mod RootAgain
+pub mod Places
+pub mod RootPlaces
+pub mod OpLists
+pub mod Puts
+pub mod OpsKept
+pub mod EntryReads
+pub mod EntryAgain
+pub mod EntryPlaces

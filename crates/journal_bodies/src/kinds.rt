@@ -1,0 +1,11 @@
+//! The bytes that bodies and operations begin with.
+
+pub const COMMIT: u8 = 1;
+
+pub const FORGET: u8 = 2;
+
+pub const ROOT: u8 = 3;
+
+pub const PUT: u8 = 1;
+
+pub const REMOVE: u8 = 2;
