@@ -47,7 +47,8 @@ impl Database {
         self.live.get(uri)
     }
 
-    fn put(&mut self, alloc: Global, document: Document, created: u64) -> Result<(), AllocError>
+    /// Makes a document live, in place of the version that is.
+    pub fn put(&mut self, alloc: Global, document: Document, created: u64) -> Result<(), AllocError>
         ensures ok { let version : Version = record { document = document; created = created } in
             OnOk result (self.new ≡ map.insert self.old document.uri version) }
         ensures err { OnErr result (self.new ≡ self.old) }

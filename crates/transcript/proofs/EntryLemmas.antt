@@ -1,5 +1,5 @@
 -- The entries of accepted turns.
-use Rattle.std.proofs.Common.{◌≡◌, ◌<◌, ◌+◌, ℕ, zero, suc, ◌-◌, List, [], ◌∷◌, ◌++◌, length, take, drop, Bool, true, false, if◌then◌else◌, refl, sym, ◌∙◌, ap, subst, inl, inr, ⊎_elim, Option, Some, None, map, drop-cons, length-append, arith}
+use Rattle.std.proofs.Common.{◌⊎◌, ◌≡◌, ◌<◌, ◌+◌, ℕ, zero, suc, ◌-◌, List, [], ◌∷◌, ◌++◌, length, take, drop, Bool, true, false, if◌then◌else◌, refl, sym, ◌∙◌, ap, subst, inl, inr, ⊎_elim, Option, Some, None, map, drop-cons, length-append, arith}
 use Rattle.std.specs.List.{flat_map, slice_get, find}
 use Rattle.std.proofs.lemmas.Grind.{flat_map-append}
 use Rattle.std.proofs.lemmas.List.{take-append-drop}
@@ -7,13 +7,14 @@ use Rattle.std.proofs.lemmas.Option.{slice_get_within, get_or_from_slice_get, sl
 use Rattle.std.proofs.Math.Seq.{get_or-append_seam}
 use Rattle.doc_model.specs.Operations.{uri_of}
 use Rattle.doc_model.specs.declared.entry.Entry.{Entry}
+use Rattle.doc_model.specs.declared.entry.Entry.TheVariants as entry
 use Rattle.doc_model.specs.declared.op.Op.{Op}
 use Rattle.std.specs.Prelude.{nat_lt}
 use Rattle.doc_meaning.specs.History.{Base, History, front, merge, latest}
 use Rattle.doc_meaning.specs.Replies.{unless_twice, unless_conflict, first_twice, differs, is_spent}
 use Rattle.doc_meaning.specs.declared.replies.CommitReply.TheVariants as committed
 use Rattle.doc_meaning.specs.declared.replies.ForgetReply.TheVariants as forgot
-use Rattle.transcript.specs.Laws.{Enters, HistoryHasEachOnce}
+use Rattle.transcript.specs.Laws.{Enters, EntersAs, HistoryHasEachOnce, HistoryHasNoOthers}
 use Rattle.transcript.specs.Legal.{IsTurn, Answers, UnlessDown, is_stopped}
 use Rattle.transcript.specs.Turns as turns
 use Rattle.transcript.specs.Turns.{Event, Answer, Turn, entries_of, history_of, down_of}
@@ -69,7 +70,7 @@ commit_at base longest before turn ops at asks says legal =
     (λ lacks. absurd (cc))
     (λ is. ⊎_elim
     (λ defined. entered h at (first_twice [] (map uri_of ops)) (find (differs (latest h)) ops) (is_spent defined.0 h) cc)
-    (λ failed. absurd (cc))
+    (λ failed. let fails = failed.0 in absurd (cc))
     (answered true (down_of before) turn.answer (λ n e. absurd (cc)) (subst (λ (c : Event). UnlessDown (is_stopped c) (down_of before) turn.answer (Answers base longest before c turn.answer)) asks is)))
     legal.answers
 
@@ -81,7 +82,7 @@ forget_at base longest before turn to at asks says legal =
     (λ lacks. absurd (cc))
     (λ is. ⊎_elim
     (λ defined. forgotten h at to (nat_lt to (merge h)) (nat_lt (front h) to) (is_spent defined.0 h) (merge h) cc)
-    (λ failed. absurd (cc))
+    (λ failed. let fails = failed.0 in absurd (cc))
     (answered true (down_of before) turn.answer (λ n e. absurd (cc)) (subst (λ (c : Event). UnlessDown (is_stopped c) (down_of before) turn.answer (Answers base longest before c turn.answer)) asks is)))
     legal.answers
 
@@ -106,3 +107,92 @@ history_has_each_once base longest list k at turn made legal here is =
     ∙ omega (arith, length-append (flat_map f (take k list)) (made ∷ []))) in
     let place : at - 1 - base.front ≡ length (flat_map f (take k list)) = omega (arith, next) in
     (next, next ∙ sym more, ap (λ (n : ℕ). slice_get (flat_map f list) n) place ∙ stands f list k turn made here makes)
+
+-- what a turn makes: no entry, or one
+makes : (call : Event) (answer : Answer)
+    → (entries_of call answer ≡ []) ⊎ ((at : ℕ) × (made : Entry) × (entries_of call answer ≡ made ∷ []) × EntersAs call answer at made)
+makes (turns.commit ops) (turns.commits (committed.Entered at)) = inr (at, entry.Commit ops, refl, inl (ops, refl, refl, refl))
+makes (turns.commit ops) (turns.commits (committed.Twice uri)) = inl refl
+makes (turns.commit ops) (turns.commits (committed.Conflict uri found at)) = inl refl
+makes (turns.commit ops) (turns.commits (committed.Spent at)) = inl refl
+makes (turns.commit ops) (turns.forgets answer) = inl refl
+makes (turns.commit ops) (turns.looks answer) = inl refl
+makes (turns.commit ops) (turns.starts n) = inl refl
+makes (turns.commit ops) turns.done = inl refl
+makes (turns.commit ops) (turns.revives n) = inl refl
+makes (turns.commit ops) (turns.down n) = inl refl
+makes (turns.commit ops) (turns.busy n) = inl refl
+makes (turns.commit ops) (turns.owed n) = inl refl
+makes (turns.commit ops) (turns.nothing n) = inl refl
+makes (turns.commit ops) (turns.spent n) = inl refl
+makes (turns.commit ops) turns.fault = inl refl
+makes (turns.commit ops) turns.memory = inl refl
+makes (turns.forget to) (turns.forgets (forgot.Entered at)) = inr (at, entry.Forget to, refl, inr (to, refl, refl, refl))
+makes (turns.forget to) (turns.forgets (forgot.Back t merged)) = inl refl
+makes (turns.forget to) (turns.forgets (forgot.Ahead t at)) = inl refl
+makes (turns.forget to) (turns.forgets (forgot.Spent at)) = inl refl
+makes (turns.forget to) (turns.commits answer) = inl refl
+makes (turns.forget to) (turns.looks answer) = inl refl
+makes (turns.forget to) (turns.starts n) = inl refl
+makes (turns.forget to) turns.done = inl refl
+makes (turns.forget to) (turns.revives n) = inl refl
+makes (turns.forget to) (turns.down n) = inl refl
+makes (turns.forget to) (turns.busy n) = inl refl
+makes (turns.forget to) (turns.owed n) = inl refl
+makes (turns.forget to) (turns.nothing n) = inl refl
+makes (turns.forget to) (turns.spent n) = inl refl
+makes (turns.forget to) turns.fault = inl refl
+makes (turns.forget to) turns.memory = inl refl
+makes turns.look answer = inl refl
+makes (turns.wish what) answer = inl refl
+makes turns.start_save answer = inl refl
+makes turns.start_merge answer = inl refl
+makes (turns.install_save n) answer = inl refl
+makes (turns.install_merge n) answer = inl refl
+makes (turns.abandon n) answer = inl refl
+makes turns.tidy answer = inl refl
+makes turns.revive answer = inl refl
+
+abbrev entries_by : Turn → List Entry
+entries_by turn = entries_of turn.call turn.answer
+
+-- an entry is that of a turn behind so many
+abbrev ComesFrom : List Turn → ℕ → Entry → Type 0
+ComesFrom list i made =
+    (k : ℕ) × (turn : Turn) × (at : ℕ) × (slice_get list k ≡ Some turn) × Enters turn at made × (length (flat_map entries_by (take k list)) ≡ i)
+
+behind : (turn : Turn) (list : List Turn) (i j : ℕ) (made : Entry) → length (entries_by turn) + j ≡ i → ComesFrom list j made → ComesFrom (turn ∷ list) i made
+behind turn list i j made sum (k, later, at, here, enters, place) =
+    (suc k, later, at, here, enters, length-append (entries_by turn) (flat_map entries_by (take k list)) ∙ (ap (λ (n : ℕ). length (entries_by turn) + n) place ∙ sum))
+
+comes_first : (turn : Turn) (list : List Turn) (i at : ℕ) (first made : Entry) → entries_by turn ≡ first ∷ [] → Enters turn at first
+    → ((j : ℕ) → slice_get (flat_map entries_by list) j ≡ Some made → ComesFrom list j made)
+    → slice_get (first ∷ flat_map entries_by list) i ≡ Some made → ComesFrom (turn ∷ list) i made
+comes_first turn list zero at first made one enters rest is =
+    let same : first ≡ made = cc in
+    (0, turn, at, refl, subst (λ (e : Entry). Enters turn at e) same enters, refl)
+comes_first turn list (suc j) at first made one enters rest is =
+    behind turn list (suc j) j made (omega (arith, ap (λ (es : List Entry). length es) one)) (rest j is)
+
+comes_next : (turn : Turn) (list : List Turn) (i : ℕ) (made : Entry)
+    → ((j : ℕ) → slice_get (flat_map entries_by list) j ≡ Some made → ComesFrom list j made)
+    → slice_get (entries_by turn ++ flat_map entries_by list) i ≡ Some made → ComesFrom (turn ∷ list) i made
+comes_next turn list i made rest is =
+    ⊎_elim
+    (λ none. behind turn list i i made (omega (arith, ap (λ (es : List Entry). length es) none)) (rest i (subst (λ (es : List Entry). slice_get (es ++ flat_map entries_by list) i ≡ Some made) none is)))
+    (λ one. comes_first turn list i one.0 one.1 made one.2 one.3 rest (subst (λ (es : List Entry). slice_get (es ++ flat_map entries_by list) i ≡ Some made) one.2 is))
+    (makes turn.call turn.answer)
+
+none_is : {X : Type 0} (x : X) → None ≡ Some x → ⊥
+none_is x e = cc
+
+comes_from : (list : List Turn) (i : ℕ) (made : Entry) → slice_get (flat_map entries_by list) i ≡ Some made → ComesFrom list i made
+comes_from [] i made is = absurd (none_is made is)
+comes_from (turn ∷ list) i made is = comes_next turn list i made (λ j here. comes_from list j made here) is
+
+pub history_has_no_others : HistoryHasNoOthers
+history_has_no_others base longest list i made legal is =
+    let (k, turn, at, here, enter, place) = comes_from list i made is in
+    let (next, made_so) = enters base longest (take k list) turn at made enter (legal k turn here) in
+    let at_is : at ≡ base.front + i + 1 = omega (arith, next, place) in
+    (k, turn, here, subst (λ (n : ℕ). Enters turn n made) at_is enter)

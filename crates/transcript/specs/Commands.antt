@@ -2,6 +2,7 @@
 use Rattle.std.specs.Prelude.{ℕ, ◌≡◌, ◌≢◌, ◌≤◌, List, [], ◌∷◌, ◌++◌, length, map, None, All, IsTrue, codes}
 use Rattle.std.specs.Str.{IsUtf8}
 use Rattle.doc_model.specs.Documents.{document_of}
+use Rattle.doc_model.specs.Operations.{AreOps}
 use Rattle.doc_model.specs.Tree.{is_distinct}
 use Rattle.doc_model.specs.Uri.{is_uri}
 use Rattle.doc_model.specs.declared.node.Node.{Node}
@@ -62,7 +63,7 @@ word_query word = query.Word (word ∷ []) Auto
 abbrev pub Asks : List ℕ → Command → Type 0
 Asks line (command.Commit ops) =
     (uri : List ℕ) × (members : List TextMember) × IsPut line uri members
-    × (ops ≡ Put (document_of uri [] (object_of members)) None ∷ [])
+    × (ops ≡ Put (document_of uri [] (object_of members)) None ∷ []) × AreOps ops
 Asks line (command.Search q Front) = (word : List ℕ) × IsSearch line word × (q ≡ word_query word)
 Asks line command.Quit = line ≡ codes "quit"
 Asks line _ = ⊥

@@ -1,3 +1,4 @@
+pub mod Answers
 pub mod Commands
 pub mod Laws
 pub mod Legal
@@ -5,3 +6,4 @@ pub mod Lines
 pub mod Texts
 pub mod Transcript
 pub mod Turns
+pub mod OwnTurns

@@ -20,10 +20,10 @@ with_feed (last bytes) = bytes
 abbrev pub without_return : List ℕ → List ℕ
 without_return bytes = if slice_index bytes (length bytes - 1) == 0x0D then take (length bytes - 1) bytes else bytes
 
--- what a line says: one carriage return before its line feed doesn't count
-abbrev pub said : Line → List ℕ
-said (ended bytes) = without_return bytes
-said (last bytes) = bytes
+-- the content of a line: one carriage return before its line feed doesn't count
+abbrev pub content : Line → List ℕ
+content (ended bytes) = without_return bytes
+content (last bytes) = bytes
 
 abbrev pub HasNoFeed : List ℕ → Type 0
 HasNoFeed bytes = All (λ b. b ≢ 0x0A) bytes

@@ -12,7 +12,7 @@ use Rattle.doc_meaning.specs.declared.replies.ForgetReply.TheVariants as forgot
 use Rattle.doc_meaning.specs.declared.replies.LookReply.{LookReply}
 use Rattle.transcript.specs.declared.wish.Wish.{Wish}
 
--- the eleven events of the engine; an install and an abandon name the job
+-- the eleven events of the engine; an install and an abandon name the job, and who asks only what is due looks
 pub data Event : Type 0 where
   commit : List Op → Event
   forget : ℕ → Event
@@ -27,7 +27,8 @@ pub data Event : Type 0 where
   revive : Event
 
 -- what an event is answered: a job's number where one is started, the front where the log is revived, the count of
--- faults where it is down, the job that is out where a start is busy, and `refused` where a job has another cause
+-- faults where it is down; of starts and installs also the job that is out, how many files are owed, the number that
+-- leaves nothing to do, and the number that is the last
 pub data Answer : Type 0 where
   commits : CommitReply → Answer
   forgets : ForgetReply → Answer
@@ -37,7 +38,9 @@ pub data Answer : Type 0 where
   revives : ℕ → Answer
   down : ℕ → Answer
   busy : ℕ → Answer
-  refused : Answer
+  owed : ℕ → Answer
+  nothing : ℕ → Answer
+  spent : ℕ → Answer
   fault : Answer
   memory : Answer
 
@@ -66,15 +69,21 @@ down_after count (turn ∷ turns) = down_after turn.down turns
 abbrev pub down_of : List Turn → Option ℕ
 down_of turns = down_after None turns
 
--- a job that is out: whose start gave it, and its number
+-- what a job makes
+pub data JobKind : Type 0 where
+  save : JobKind
+  merge : JobKind
+
+-- a job that is out: whose start gave it, its number, and its kind
 pub record Job : Type 0 where
   pub author : ℕ
   pub number : ℕ
+  pub kind : JobKind
 
 -- a start gives a job out; an install or an abandon ends it
 abbrev pub job_behind : Option Job → ℕ → Event → Answer → Option Job
-job_behind job author start_save (starts number) = Some (record { author = author; number = number })
-job_behind job author start_merge (starts number) = Some (record { author = author; number = number })
+job_behind job author start_save (starts number) = Some (record { author = author; number = number; kind = save })
+job_behind job author start_merge (starts number) = Some (record { author = author; number = number; kind = merge })
 job_behind job author (install_save number) done = None
 job_behind job author (install_merge number) done = None
 job_behind job author (abandon number) done = None

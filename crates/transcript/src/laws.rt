@@ -1,4 +1,4 @@
-ghost use Rattle.transcript.specs.Laws.{HistoryHasEachOnce, LaterTurnsChangeNothing};
+ghost use Rattle.transcript.specs.Laws.{HistoryHasEachOnce, HistoryHasNoOthers, LaterTurnsChangeNothing};
 
 /// A session that agrees with turns agrees with them and any further turns of others.
 pub fn later_turns_change_nothing()
@@ -9,4 +9,9 @@ pub fn later_turns_change_nothing()
 /// it was answered.
 pub fn history_has_each_once()
     ensures { HistoryHasEachOnce }
+{}
+
+/// The history of legal turns has no entries but those of accepted commits and forgets.
+pub fn history_has_no_others()
+    ensures { HistoryHasNoOthers }
 {}
