@@ -1,0 +1,139 @@
+// Lines near the three forms.
+use crate::{LineRefusal, read_line};
+use doc_model::{Case, Node, Op, Query};
+use std::alloc::Global;
+use std::test::Fail;
+use transcript::{Command, When};
+
+// Which command a line asks.
+fn asks(alloc: Global, line: &[u8]) -> &'static str {
+    match read_line(alloc, line) {
+        Ok(Some(command)) => name_of(&command),
+        Ok(None) => "nothing",
+        Err(refusal) => refusal_name(refusal),
+    }
+}
+
+fn name_of(command: &Command) -> &'static str {
+    match command {
+        Command::Commit(_) => "commit",
+        Command::Search { .. } => "search",
+        Command::Quit => "quit",
+        _ => "else",
+    }
+}
+
+fn refusal_name(refusal: LineRefusal) -> &'static str {
+    match refusal {
+        LineRefusal::Later => "later",
+        LineRefusal::Memory => "memory",
+    }
+}
+
+#[test]
+fn a_put_is_read(rt: HostRuntime) -> Result<(), Fail> {
+    let line = b"put /a.json {\"title\":\"Gr\xC3\xBC\xC3\x9Fe, fox\",\"\":\"\"}";
+    let asked = read_line(rt.alloc(), line).ok().ok_or("refused")?;
+    let Some(Command::Commit(ops)) = asked else {
+        return Err("no commit".into());
+    };
+    let [
+        Op::Put {
+            document,
+            expect: None,
+        },
+    ] = ops.as_slice()
+    else {
+        return Err("no put".into());
+    };
+    assert_eq!(rt; document.uri().as_str(), "/a.json");
+    assert_eq!(rt; document.collections().len(), 0);
+    let Node::Members(members) = document.root() else {
+        return Err("no object".into());
+    };
+    let [(first, Node::Text(title)), (second, Node::Text(empty))] = members.as_slice() else {
+        return Err("no two texts".into());
+    };
+    assert_eq!(rt; first.as_str(), "title");
+    assert_eq!(rt; title.as_str(), "Grüße, fox");
+    assert_eq!(rt; second.as_str(), "");
+    assert_eq!(rt; empty.as_str(), "");
+    Ok(())
+}
+
+#[test]
+fn a_search_is_read(rt: HostRuntime) -> Result<(), Fail> {
+    let line = b"search {\"wordQuery\":{\"text\":[\"Fox\"]}}";
+    let asked = read_line(rt.alloc(), line).ok().ok_or("refused")?;
+    let Some(
+        Command::Search {
+            query: Query::Word {
+                texts,
+                case: Case::Auto,
+            },
+            when: When::Front,
+        },
+    ) = asked
+    else {
+        return Err("no search".into());
+    };
+    let [word] = texts.as_slice() else {
+        return Err("no single text".into());
+    };
+    assert_eq!(rt; word.as_str(), "Fox");
+    Ok(())
+}
+
+#[test]
+fn lines_of_no_form_come_later(rt: HostRuntime) -> Result<(), Fail> {
+    let lines: [&[u8]; 30] = [
+        b" ",
+        b"quit ",
+        b"QUIT",
+        b"get /a.json",
+        b"put",
+        b"put /a.json",
+        b"put /a.json ",
+        b"put  /a.json {}",
+        b"put /a.json  {}",
+        b"put /a.json {} ",
+        b"put /a.json []",
+        b"put /a.json {\"t\":1}",
+        b"put /a.json {\"t\":\"a\",}",
+        b"put /a.json {\"t\" :\"a\"}",
+        b"put /a.json {\"t\":\"a\"}}",
+        b"put /a.json {\"t\":\"a\"",
+        b"put /a.json {\"t\":\"a\\n\"}",
+        b"put /a.json {\"t\":\"a\tb\"}",
+        b"put /a.json {\"t\":\"\xFF\"}",
+        b"put /a.json {\"t\":\"a\",\"t\":\"b\"}",
+        b"put /a\x01 {}",
+        b"put /\xC3 {}",
+        b"put /a.json ; /b.json {}",
+        b"search {\"wordQuery\":{\"text\":[\"\"]}}",
+        b"search {\"wordQuery\":{\"text\":[\"fox!\"]}}",
+        b"search {\"wordQuery\":{\"text\":[\"red fox\"]}}",
+        b"search {\"wordQuery\":{\"text\":[\"fox\",\"hen\"]}}",
+        b"search {\"wordQuery\":{\"text\":[\"\xFF\"]}}",
+        b"search  {\"wordQuery\":{\"text\":[\"fox\"]}}",
+        b"search {\"wordQuery\":{\"text\":[\"fox\"]}} ",
+    ];
+    for line in lines.iter() {
+        assert_eq!(rt; asks(rt.alloc(), line), "later");
+    }
+    assert_eq!(rt; asks(rt.alloc(), b""), "nothing");
+    assert_eq!(rt; asks(rt.alloc(), b"quit"), "quit");
+    assert_eq!(rt; asks(rt.alloc(), b"put /a.json {}"), "commit");
+    Ok(())
+}
+
+#[test]
+fn a_uri_has_at_most_1_024_bytes(rt: HostRuntime) -> Result<(), Fail> {
+    let mut line = Vec::from_slice(rt.alloc(), b"put ")?;
+    line.extend_from_slice(&[b'a'; 1024])?;
+    line.extend_from_slice(b" {}")?;
+    assert_eq!(rt; asks(rt.alloc(), &line), "commit");
+    line.insert(4, b'a')?;
+    assert_eq!(rt; asks(rt.alloc(), &line), "later");
+    Ok(())
+}
