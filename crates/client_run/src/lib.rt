@@ -1,0 +1,15 @@
+//! One session: the lines of a source, each answered by a service, and the replies to a sink.
+#![tactic(auto)]
+
+mod answering;
+mod closing;
+mod find;
+mod reader;
+mod service;
+mod serving;
+mod step;
+#[cfg(test)]
+mod tests;
+
+pub use service::Service;
+pub use serving::session;
