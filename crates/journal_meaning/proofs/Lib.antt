@@ -1,0 +1,13 @@
+pub mod Rising
+pub mod OneLemmas
+pub mod EntryLemmas
+pub mod NextLemmas
+pub mod EmptyLemmas
+pub mod ShownLemmas
+pub mod BaseLemmas
+pub mod AlikeLemmas
+pub mod LengthLemmas
+pub mod BodyLemmas
+pub mod TurnLemmas
+pub mod FitLemmas
+pub mod DamageLemmas

@@ -1,0 +1,5 @@
+use Rattle.journal_meaning.proofs.AlikeLemmas.{shown_begins}
+use Rattle.journal_meaning.proofs.laws.shown_begins.Goals as goal
+
+pub returns : goal.returns
+returns c = shown_begins
