@@ -1,0 +1,116 @@
+-- The URIs that were met so far, and those that are named twice.
+use Rattle.std.proofs.Common.{◌≡◌, ℕ, ◌+◌, ◌<◌, Bool, true, false, cond, not, ◌||◌, ◌&&◌, List, [], ◌∷◌, ◌++◌, map}
+use Rattle.std.proofs.Common.{length, take, drop, get_or, None, Some, bytes_eq, refl, sym, ap, ◌∙◌, ⊎_elim}
+use Rattle.std.proofs.lemmas.Bool.{cases_Bool, false≢true, not-false, not-true, or_parts}
+use Rattle.std.proofs.lemmas.Cmp.{nat_list_eq_equiv}
+use Rattle.std.proofs.lemmas.List.{drop_more, map-append, take_more}
+use Rattle.std.proofs.lemmas.List.Folds.{list_any-append}
+use Rattle.std.proofs.lemmas.Map.Text.{is_eq-slice_cmp}
+use Rattle.std.proofs.lemmas.Slice.Eq.{bytes_eq-Decides}
+use Rattle.std.specs.Borrow.{Bor}
+use Rattle.std.specs.BTreeSet.{BTreeSet, UpdatesBy, contains_by}
+use Rattle.std.specs.Cmp.Lexicographic.{slice_cmp}
+use Rattle.std.specs.Ordering.{nat_cmp}
+use Rattle.doc_model.specs.Operations.{uri_of}
+use Rattle.doc_model.specs.Tree.{is_among, is_distinct}
+use Rattle.doc_model.specs.declared.op.Op.{Op}
+use Rattle.doc_meaning.specs.Replies.{first_twice}
+
+-- the set has these URIs
+abbrev pub HasUris : BTreeSet (Bor (List ℕ)) → List (List ℕ) → Type 0
+HasUris met uris = (uri : List ℕ) → contains_by (λ key. slice_cmp nat_cmp uri key.now) met ≡ is_among uris uri
+
+one_of : (here : Bool) (seen : Bool) → cond here true seen ≡ (seen || (here || false))
+one_of true true = refl
+one_of true false = refl
+one_of false true = refl
+one_of false false = refl
+
+-- a URI that is put into the set is one more
+pub one_more : (met new : BTreeSet (Bor (List ℕ))) (uris : List (List ℕ)) (uri : List ℕ) →
+    UpdatesBy (λ a b. slice_cmp nat_cmp a.now b.now) (λ key. slice_cmp nat_cmp uri key.now) met new true →
+    HasUris met uris → HasUris new (uris ++ uri ∷ [])
+one_more met new uris uri updates had other =
+    updates.0 (record { ref_ptr = (0, 0); now = other })
+    ∙ ap (λ b. cond b true (contains_by (λ key. slice_cmp nat_cmp other key.now) met))
+    (is_eq-slice_cmp uri other ∙ nat_list_eq_equiv.symm uri other)
+    ∙ ap (cond (bytes_eq other uri) true) (had other)
+    ∙ one_of (bytes_eq other uri) (is_among uris other)
+    ∙ sym (list_any-append (bytes_eq other) uris (uri ∷ []))
+
+pub no_more : (uris others : List (List ℕ)) (uri : List ℕ) → is_among (uris ++ others) uri ≡ false →
+    (is_among uris uri ≡ false) × (is_among others uri ≡ false)
+no_more uris others uri h =
+    or_parts (is_among uris uri) (is_among others uri) (sym (list_any-append (bytes_eq uri) uris others) ∙ h)
+
+pub nor_both : (uris others : List (List ℕ)) (uri : List ℕ) → is_among uris uri ≡ false → is_among others uri ≡ false →
+    is_among (uris ++ others) uri ≡ false
+nor_both uris others uri g h =
+    list_any-append (bytes_eq uri) uris others ∙ ap (λ b. b || is_among others uri) g ∙ h
+
+-- URIs of which none stands among the earlier ones
+abbrev AreNew : List (List ℕ) → List (List ℕ) → Type 0
+AreNew earlier uris = (uri : List ℕ) → is_among uris uri ≡ true → is_among earlier uri ≡ false
+
+first_is_new : (earlier uris : List (List ℕ)) (uri : List ℕ) → AreNew (earlier ++ uri ∷ []) uris →
+    is_among uris uri ≡ false
+first_is_new earlier uris uri new =
+    ⊎_elim
+    (λ g. absurd (false≢true (sym (no_more earlier (uri ∷ []) uri (new uri g)).1
+    ∙ ap (λ b. b || false) ((bytes_eq-Decides uri uri).1 refl))))
+    (λ g. g) (cases_Bool (is_among uris uri))
+
+same_or_later : (earlier uris : List (List ℕ)) (uri : List ℕ) → is_among earlier uri ≡ false →
+    AreNew (earlier ++ uri ∷ []) uris → AreNew earlier (uri ∷ uris)
+same_or_later earlier uris uri apart new other g =
+    ⊎_elim
+    (λ same. ap (is_among earlier) ((bytes_eq-Decides other uri).0 same) ∙ apart)
+    (λ differs. (no_more earlier (uri ∷ []) other (new other (sym (ap (λ b. b || is_among uris other) differs) ∙ g))).0)
+    (cases_Bool (bytes_eq other uri))
+
+none_twice : (earlier uris : List (List ℕ)) → first_twice earlier uris ≡ None →
+    (is_distinct uris ≡ true) × AreNew earlier uris
+none_twice earlier [] none = (refl, λ uri g. absurd (false≢true g))
+none_twice earlier (uri ∷ uris) none =
+    elim (is_among earlier uri) as (λ b. is_among earlier uri ≡ b →
+    cond b (Some uri) (first_twice (earlier ++ uri ∷ []) uris) ≡ None →
+    (is_distinct (uri ∷ uris) ≡ true) × AreNew earlier (uri ∷ uris)) [
+      | true ↦ λ _ some. absurd (some_is_not some)
+      | false ↦ λ apart later.
+          let rest = none_twice (earlier ++ uri ∷ []) uris later in (
+            ap (λ b. not b && is_distinct uris) (first_is_new earlier uris uri rest.1) ∙ rest.0,
+            same_or_later earlier uris uri apart rest.1,
+          )
+    ] refl none
+  where
+    some_is_not : Some uri ≡ None → ⊥
+    some_is_not e = cc
+
+-- URIs of which none is named twice are distinct
+pub distinct_from_none : (uris : List (List ℕ)) → None ≡ first_twice [] uris → is_distinct uris ≡ true
+distinct_from_none uris none = (none_twice [] uris (sym none)).0
+
+-- one operation further
+module _ (ops : List Op) (i : ℕ) (op : Op) (within : i < length ops) (here : op ≡ get_or ops i op) where
+  pub named_more : map uri_of (take (i + 1) ops) ≡ map uri_of (take i ops) ++ uri_of op ∷ []
+  named_more =
+      ap (map uri_of) (take_more ops i op within) ∙ map-append uri_of (take i ops) (get_or ops i op ∷ [])
+      ∙ ap (λ o. map uri_of (take i ops) ++ uri_of o ∷ []) (sym here)
+
+  pub first_twice-more : first_twice (map uri_of (take i ops)) (map uri_of (drop i ops))
+      ≡ cond (is_among (map uri_of (take i ops)) (uri_of op)) (Some (uri_of op))
+      (first_twice (map uri_of (take (i + 1) ops)) (map uri_of (drop (i + 1) ops)))
+  first_twice-more =
+      ap (λ os. first_twice (map uri_of (take i ops)) (map uri_of os)) (drop_more ops i op within)
+      ∙ ap (λ o. first_twice (map uri_of (take i ops)) (uri_of o ∷ map uri_of (drop (i + 1) ops))) (sym here)
+      ∙ ap (λ us. cond (is_among (map uri_of (take i ops)) (uri_of op)) (Some (uri_of op))
+      (first_twice us (map uri_of (drop (i + 1) ops))))
+      (sym named_more)
+
+-- what the set told of a URI
+module _ {added has among : Bool} (told : added ≡ not has) (known : has ≡ among) where
+  pub was_met : added ≡ false → among ≡ true
+  was_met is = not-false _ (sym (ap not known) ∙ sym told ∙ is)
+
+  pub was_new : added ≡ true → among ≡ false
+  was_new is = not-true _ (sym (ap not known) ∙ sym told ∙ is)

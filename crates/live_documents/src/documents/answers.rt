@@ -1,0 +1,22 @@
+ghost use Rattle.std.specs.Prelude.{◌≡◌, IfOk};
+ghost use Rattle.doc_meaning.specs.Answers.{answer_in};
+
+use crate::LiveDocuments;
+use doc_model::{Query, Texts};
+use plain_query::matches;
+use std::alloc::{AllocError, Global};
+
+impl LiveDocuments {
+    /// The URIs of the documents that satisfy a query, in the order of their bytes. It evaluates each document.
+    pub fn answer(&self, alloc: Global, query: &Query) -> Result<Texts, AllocError>
+        ensures { IfOk result (λ uris. uris ≡ answer_in self.now query.now) }
+    {
+        let mut found = Texts::new(alloc);
+        for (uri, version) in self.versions.iter() {
+            if matches(alloc, query, &version.document)? {
+                found.push(uri.copy(alloc)?)?;
+            }
+        }
+        Ok(found)
+    }
+}
