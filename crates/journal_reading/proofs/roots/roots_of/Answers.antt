@@ -1,0 +1,67 @@
+use Rattle.std.proofs.Common.{ℕ, List, ap, length, subst, sym, take, arith}
+use Rattle.std.proofs.lemmas.Result.{err_from_is_err_and}
+use Rattle.journal_meaning.specs.Bodies.{AreRoots}
+use Rattle.journal_meaning.specs.Damages.{AreBadRoots, IsBadRoot, IsRootBody}
+use Rattle.journal_reading.specs.OneBody.{BreaksAt}
+use Rattle.journal_reading.specs.Reading.{items_of}
+use Rattle.journal_reading.proofs.EntryLemmas.{bad_body, root_before, roots_more, unread}
+use Rattle.journal_reading.proofs.GateLemmas.{bodies_more, body_lent, vec_more, vec_room}
+use Rattle.journal_reading.proofs.roots.roots_of.Goals as goal
+
+pub root_at-requires : goal.root_at-requires
+root_at-requires c =
+    omega (
+      arith,
+      vec_room c.args.bodies.now c.loop-body.body-index c.body-item.result c.loop-body-test.true c.body-item.is,
+      c.loop-body.invariant.gate,
+      ap length c.deref.ensures.value,
+    )
+
+pub returns-in_err-root_at : goal.returns-in_err-root_at
+returns-in_err-root_at c =
+    let p = err_from_is_err_and c.from_residual.result c.from_residual.ensures.1 in
+    let bodies = items_of c.args.bodies.now in
+    let body = c.deref.result.now in
+    let here = body_lent c.args.bodies.now c.loop-body.body-index c.body-item.result body c.loop-body-test.true
+    c.body-item.is
+    c.deref.ensures.value in
+    rw (p.1, p.2)
+    (unread (BreaksAt IsBadRoot c.loop-body.gate body) (AreBadRoots bodies)
+    (bad_body IsRootBody IsBadRoot bodies c.loop-body.body-index c.loop-body.gate body here c.loop-body.invariant.gate
+    (root_before bodies c.loop-body.body-index c.loop-body.roots.items c.loop-body.invariant.roots))
+    c.in_err-root_at.field-0.0 c.in_err-root_at.ensures)
+
+pub frame_len-requires : goal.frame_len-requires
+frame_len-requires c =
+    omega (
+      arith,
+      vec_room c.args.bodies.now c.loop-body.body-index c.body-item.result c.loop-body-test.true c.body-item.is,
+    )
+
+pub overflow_add-gate : goal.overflow_add-gate
+overflow_add-gate c =
+    omega (
+      arith,
+      vec_room c.args.bodies.now c.loop-body.body-index c.body-item.result c.loop-body-test.true c.body-item.is,
+      c.loop-body.invariant.gate,
+    )
+
+pub loop-body-preserved : goal.loop-body-preserved
+loop-body-preserved c =
+    let bodies = items_of c.args.bodies.now in
+    let k = c.loop-body.body-index in
+    let body = c.deref.result.now in
+    let here = body_lent c.args.bodies.now k c.body-item.result body c.loop-body-test.true c.body-item.is
+    c.deref.ensures.value in
+    record {
+      gate = omega (
+        arith,
+        vec_more c.args.bodies.now k c.body-item.result c.loop-body-test.true c.body-item.is,
+        c.loop-body.invariant.gate,
+      );
+      roots =
+          subst (λ (l : List (List ℕ)). AreRoots l c.push.new.self.items) (sym (bodies_more bodies k body here))
+          (rw c.in_ok-push.ensures.items
+          (roots_more (take k bodies) c.loop-body.roots.items body c.in_ok-root_at.field-0 c.loop-body.invariant.roots
+          c.in_ok-root_at.ensures));
+    }
