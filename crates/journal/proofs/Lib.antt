@@ -1,0 +1,15 @@
+pub mod Stretches
+pub mod OneLog
+pub mod Syncs
+pub mod Trims
+pub mod ReadSteps
+pub mod LogReads
+pub mod RootReads
+pub mod EntryReads
+pub mod Trimmed
+pub mod Opens
+pub mod ReadImages
+pub mod Shows
+pub mod ScanSteps
+pub mod Blanks
+pub mod Makes

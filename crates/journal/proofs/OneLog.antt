@@ -1,0 +1,215 @@
+-- What a call on one log of a journal leaves of the others.
+use Rattle.std.proofs.Common.{◌≡◌, ◌≢◌, ⊎_elim, ◌<◌, ◌≤◌, ◌+◌, ◌∙◌, refl, sym, subst, ℕ, zero, suc, List, [], ◌∷◌, ◌++◌, length, Option, Result, Ok, Err, MatchResult, arith}
+use Rattle.std.proofs.lemmas.Bool.{cases_eq, eq-eqb, ne_eqb}
+use Rattle.disk_model.specs.Logs.{Image, Outcomes}
+use Rattle.disk_model.specs.Moments.{Throughout}
+use Rattle.disk_model.specs.declared.disk.TheConstants.{LOG_COUNT}
+use Rattle.frame_log.specs.Calls.{AppendAnswers}
+use Rattle.frame_log.specs.Calls as log
+use Rattle.frame_log.specs.Frames.{MayHave}
+use Rattle.frame_log.specs.Standing.{Holds, IsWithin, KeepsToLog, Leaves, SparesOthers, Stands, file_of}
+use Rattle.frame_log.specs.declared.refusal.LogRefusal.{LogRefusal}
+use Rattle.frame_log.proofs.OtherLemmas.{becomes_other, other_left, other_stands}
+use Rattle.frame_log.proofs.Steps.{leaves_may}
+use Rattle.frame_log.proofs.Stretches.{throughout_weaker}
+use Rattle.journal_meaning.specs.Bodies.{Bodies, MayHaveBodies}
+use Rattle.journal_meaning.specs.Laws.{no_bodies}
+use Rattle.journal_meaning.specs.Shown.{only_body, with_body}
+use Rattle.journal.specs.Calls.{Adds, Appends}
+use Rattle.journal.specs.Standing.{AreWithin, OnlyLog, StandsWith, log_of}
+use Rattle.journal.specs.declared.journal.Journal.{Journal}
+use Rattle.journal.proofs.Stretches.{throughout_all}
+
+-- each log is of its file
+pub file_is : (j : Journal) (k : ℕ) → k < LOG_COUNT → file_of (log_of j k) ≡ k
+file_is j zero lt = j.first_journal
+file_is j (suc zero) lt = j.second_journal
+file_is j (suc (suc zero)) lt = j.first_roots
+file_is j (suc (suc (suc k))) lt = let is = j.second_roots in omega (arith, lt, is)
+
+pub body_here : (kept : Bodies) (file : ℕ) (body : List ℕ) → with_body kept file body file ≡ kept file ++ body ∷ []
+body_here kept file body = rw (eq-eqb file file refl) refl
+
+pub body_there : (kept : Bodies) (file : ℕ) (body : List ℕ) (other : ℕ) → other ≢ file → with_body kept file body
+    other ≡ kept other
+body_there kept file body other apart = rw (ne_eqb other file apart) refl
+
+pub only_here : (file : ℕ) (body : List ℕ) → only_body file body file ≡ body ∷ []
+only_here file body = rw (eq-eqb file file refl) refl
+
+pub only_there : (file : ℕ) (body : List ℕ) (other : ℕ) → other ≢ file → only_body file body other ≡ []
+only_there file body other apart = rw (ne_eqb other file apart) refl
+
+-- a fact of this log and of the others is one of each
+pub each_log : (P : ℕ → Type 0) (file : ℕ) → P file → ((other : ℕ) → other < LOG_COUNT → other ≢ file → P other)
+    → (k : ℕ) → k < LOG_COUNT → P k
+each_log P file here there k lt = ⊎_elim (λ is. subst P (sym is) here) (λ apart. there k lt apart) (cases_eq k file)
+
+module _ {D : Type 0} (seen : D → Option Image) (may_leave : D → Outcomes) (moment : D → ℕ)
+    (left_since : D → ℕ → Outcomes) (file : ℕ) (old new : Journal) (before after : D)
+    (only : OnlyLog file old new) (spares : SparesOthers seen may_leave moment left_since file before after) where
+  -- where the last gate of this log lies in its file, that of each does
+  pub stays_within : IsWithin (log_of new file) (seen after) → AreWithin old (seen before) → AreWithin new (seen after)
+  stays_within here within = record {
+    each = each_log (λ k. IsWithin (log_of new k) (seen after)) file here
+        (λ other lt apart. let same = only.others other lt apart in let is = file_is old other lt in
+        rw same (becomes_other (λ bytes. (log_of old other).end + 1 ≤ length bytes) file (file_of (log_of old other))
+        (seen before) (seen after) (λ e. apart (sym is ∙ e)) spares.reads (within.each other lt)));
+  }
+
+  -- where this log stands so, each does
+  pub stands_with : ((t : ℕ) (c : Image) → t ≤ moment after → may_leave after c → left_since after t c)
+      → (kept held more : Bodies) → ((other : ℕ) → other ≢ file → held other ≡ kept other)
+      → ((other : ℕ) → other ≢ file → more other ≡ [])
+      → Stands seen may_leave (log_of new file) after (held file) (more file)
+      → StandsWith seen may_leave old before kept no_bodies → StandsWith seen may_leave new after held more
+  stands_with counts kept held more same none here stands = record {
+    each = each_log (λ k. Stands seen may_leave (log_of new k) after (held k) (more k)) file here
+        (λ other lt apart. let is = file_is old other lt in
+        rw (only.others other lt apart, same other apart, none other apart)
+        (other_stands seen may_leave moment left_since file (log_of old other) before after (λ e. apart (sym is ∙ e))
+        spares (kept other) [] counts (stands.each other lt)));
+  }
+
+  -- at each moment a crash leaves of this log what it has or may have, and the others as they were
+  pub may_have_bodies : (kept held more : Bodies) → ((other : ℕ) → other ≢ file → held other ≡ kept other)
+      → ((other : ℕ) → other ≢ file → more other ≡ [])
+      → Throughout (moment before) (moment after) (left_since before) (left_since after)
+      (λ c. MayHave (held file) (more file) (c file))
+      → StandsWith seen may_leave old before kept no_bodies
+      → Throughout (moment before) (moment after) (left_since before) (left_since after) (MayHaveBodies held more)
+  may_have_bodies kept held more same none here stands =
+      throughout_all LOG_COUNT _ _ _ _ (λ k c. MayHave (held k) (more k) (c k)) here.later
+      (each_log (λ k. Throughout (moment before) (moment after) (left_since before) (left_since after)
+      (λ c. MayHave (held k) (more k) (c k))) file here
+      (λ other lt apart.
+      let is = file_is old other lt in
+      let log = log_of old other in
+      throughout_weaker _ _ _ _ (λ c. Leaves log.state (kept other) [] (c log.file))
+      (λ c. MayHave (held other) (more other) (c other))
+      (other_left seen may_leave moment left_since file log before after (λ e. apart (sym is ∙ e)) spares
+      (kept other) [] (stands.each other lt))
+      (λ c leaves. rw (none other apart, same other apart)
+      (leaves_may log.state (kept other) [] (c other) (rw is at leaves)))))
+
+  -- at each moment a crash leaves the frames with the new one, or without it
+  any_added : (body : List ℕ) (kept : Bodies) → StandsWith seen may_leave old before kept no_bodies
+      → Throughout (moment before) (moment after) (left_since before) (left_since after)
+      (λ c. MayHave (kept file) (body ∷ []) (c file))
+      → Throughout (moment before) (moment after) (left_since before) (left_since after)
+      (MayHaveBodies kept (only_body file body))
+  any_added body kept stands here =
+      may_have_bodies kept kept (only_body file body) (λ other apart. refl) (λ other apart. only_there file body other
+      apart)
+      (rw only_here here) stands
+
+  pub added : {T : Type 0} (body : List ℕ) (result : Result T LogRefusal) (kept : Bodies)
+      → ((t : ℕ) (c : Image) → t ≤ moment after → may_leave after c → left_since after t c)
+      → StandsWith seen may_leave old before kept no_bodies
+      → MatchResult result (λ _. Holds seen may_leave (log_of new file) after (kept file ++ body ∷ []))
+      (λ _. Stands seen may_leave (log_of new file) after (kept file) (body ∷ []))
+      → Throughout (moment before) (moment after) (left_since before) (left_since after)
+      (λ c. MayHave (kept file) (body ∷ []) (c file))
+      → Adds seen may_leave moment left_since file body new before after kept result
+  added body (Ok v) kept counts stands now here = record {
+    now = stands_with counts kept (with_body kept file body) no_bodies (body_there kept file body)
+        (λ other apart. refl) (rw body_here now.stands) stands;
+    any_moment = any_added body kept stands here;
+  }
+  added body (Err e) kept counts stands now here = record {
+    now = stands_with counts kept kept (only_body file body) (λ other apart. refl)
+        (only_there file body) (rw only_here now) stands;
+    any_moment = any_added body kept stands here;
+  }
+
+-- a frame that one log took, or refused, was appended to the journal, or refused
+module _ {D : Type 0} (seen : D → Option Image) (may_leave : D → Outcomes) (moment : D → ℕ)
+    (left_since : D → ℕ → Outcomes) (file : ℕ) (lt : file < LOG_COUNT) (old new : Journal) (before after : D)
+    (only : OnlyLog file old new)
+    (keeps : KeepsToLog seen may_leave moment left_since (log_of new file) before after) where
+  pub spares : SparesOthers seen may_leave moment left_since file before after
+  spares = let is = file_is new file lt in rw is at keeps.others
+
+  pub all_within : AreWithin old (seen before) → AreWithin new (seen after)
+  all_within = stays_within seen may_leave moment left_since file old new before after only spares keeps.within
+
+  pub appends : {T : Type 0} (faults : D → ℕ) (body : List ℕ) (result : Result T LogRefusal)
+      → ((t : ℕ) (c : Image) → t ≤ moment after → may_leave after c → left_since after t c)
+      → AppendAnswers faults (log_of old file) (log_of new file) before after (length body) result
+      → log.Adds seen may_leave moment left_since body (log_of old file) (log_of new file) before after result
+      → Appends seen may_leave moment left_since faults file body old new before after result
+  appends faults body result counts answer frames = record {
+    answer = answer;
+    frames = λ kept stands up.
+        let is = file_is new file lt in
+        let leads = frames (kept file) (record { good = up; stands = stands.each file lt }) in
+        added seen may_leave moment left_since file old new before after only spares body result kept counts stands
+        leads.now (rw is at leads.any_moment);
+    others = only;
+  }
+
+-- journals that differ at one log alone
+
+zero_alone : (old new : Journal) → new.one ≡ old.one → new.two ≡ old.two → new.three ≡ old.three → (k : ℕ) → k <
+    LOG_COUNT → k ≢ 0 → log_of new k ≡ log_of old k
+zero_alone old new one two three zero lt apart = absurd (apart refl)
+zero_alone old new one two three (suc zero) lt apart = one
+zero_alone old new one two three (suc (suc zero)) lt apart = two
+zero_alone old new one two three (suc (suc (suc k))) lt apart = three
+
+pub only_zero : (old new : Journal) → new.current ≡ old.current → new.frozen ≡ old.frozen → new.one ≡ old.one →
+    new.two ≡ old.two → new.three ≡ old.three → OnlyLog 0 old new
+only_zero old new current frozen one two three = record {
+  current = current;
+  frozen = frozen;
+  others = zero_alone old
+      new one two three;
+}
+
+one_alone : (old new : Journal) → new.zero ≡ old.zero → new.two ≡ old.two → new.three ≡ old.three → (k : ℕ) → k <
+    LOG_COUNT → k ≢ 1 → log_of new k ≡ log_of old k
+one_alone old new first two three zero lt apart = first
+one_alone old new first two three (suc zero) lt apart = absurd (apart refl)
+one_alone old new first two three (suc (suc zero)) lt apart = two
+one_alone old new first two three (suc (suc (suc k))) lt apart = three
+
+pub only_one : (old new : Journal) → new.current ≡ old.current → new.frozen ≡ old.frozen → new.zero ≡ old.zero →
+    new.two ≡ old.two → new.three ≡ old.three → OnlyLog 1 old new
+only_one old new current frozen first two three = record {
+  current = current;
+  frozen = frozen;
+  others = one_alone old
+      new first two three;
+}
+
+two_alone : (old new : Journal) → new.zero ≡ old.zero → new.one ≡ old.one → new.three ≡ old.three → (k : ℕ) → k <
+    LOG_COUNT → k ≢ 2 → log_of new k ≡ log_of old k
+two_alone old new first one three zero lt apart = first
+two_alone old new first one three (suc zero) lt apart = one
+two_alone old new first one three (suc (suc zero)) lt apart = absurd (apart refl)
+two_alone old new first one three (suc (suc (suc k))) lt apart = three
+
+pub only_two : (old new : Journal) → new.current ≡ old.current → new.frozen ≡ old.frozen → new.zero ≡ old.zero →
+    new.one ≡ old.one → new.three ≡ old.three → OnlyLog 2 old new
+only_two old new current frozen first one three = record {
+  current = current;
+  frozen = frozen;
+  others = two_alone old
+      new first one three;
+}
+
+three_alone : (old new : Journal) → new.zero ≡ old.zero → new.one ≡ old.one → new.two ≡ old.two → (k : ℕ) → k <
+    LOG_COUNT → k ≢ 3 → log_of new k ≡ log_of old k
+three_alone old new first one two zero lt apart = first
+three_alone old new first one two (suc zero) lt apart = one
+three_alone old new first one two (suc (suc zero)) lt apart = two
+three_alone old new first one two (suc (suc (suc k))) lt apart = absurd (apart (omega (arith, lt)))
+
+pub only_three : (old new : Journal) → new.current ≡ old.current → new.frozen ≡ old.frozen → new.zero ≡ old.zero →
+    new.one ≡ old.one → new.two ≡ old.two → OnlyLog 3 old new
+only_three old new current frozen first one two = record {
+  current = current;
+  frozen = frozen;
+  others = three_alone
+      old new first one two;
+}

@@ -1,0 +1,11 @@
+pub mod Standing
+pub mod Calls
+pub mod Reading
+pub mod Refusals
+pub mod LogReading
+pub mod Refusing
+pub mod RootReading
+pub mod EntryReading
+pub mod Opening
+pub mod Assembling
+pub mod Making

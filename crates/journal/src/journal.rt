@@ -1,0 +1,129 @@
+// The logs of a directory.
+ghost use Rattle.std.specs.Prelude.{◌≡◌, ◌<◌, ◌≤◌, ◌+◌, ◌↔◌, ℕ, length, IsTrue};
+
+use disk_model::Disk;
+use frame_log::{Frame, Log, LogRefusal};
+
+/// The logs of a directory: two journals, of which one takes the next entry, and two logs of roots.
+#[derive(Debug, Drop)]
+pub struct Journal {
+    pub(crate) zero: Log,
+    pub(crate) one: Log,
+    pub(crate) two: Log,
+    pub(crate) three: Log,
+    pub(crate) current: u8,
+    // Whether the other journal has entries past the checkpoint, so that it isn't to be reset.
+    pub(crate) frozen: bool,
+    ghost first_journal: { zero.file ≡ 0 },
+    ghost second_journal: { one.file ≡ 1 },
+    ghost first_roots: { two.file ≡ 2 },
+    ghost second_roots: { three.file ≡ 3 },
+    ghost is_journal: { current ≤ 1 },
+}
+
+impl Journal {
+    ghost use Rattle.disk_model.specs.declared.disk.TheConstants.{LOG_COUNT};
+    ghost use Rattle.frame_log.specs.Standing.{IsTouched, end_of};
+    ghost use Rattle.journal.specs.Calls.{Appends};
+    ghost use Rattle.journal.specs.Standing.{AreUp, AreWithin, HasEmptyRootLog, root_log_of};
+    ghost use Rattle.journal.specs.Standing.{current_log, current_of, other_log, owed_of};
+
+    /// Adds an entry's frame to the current journal. Once it answers Ok, each crash leaves it.
+    ///
+    /// Four device calls and no memory.
+    pub fn append_entry<D: Disk>(&mut self, disk: &mut D, frame: &Frame) -> Result<(), LogRefusal>
+        requires { AreWithin self.old (D.seen disk.old) }
+        ensures entry { Appends D.seen D.may_leave D.moment D.left_since D.faults (current_of self.old) frame.now
+            self.old self.new disk.old disk.new result }
+        ensures within { AreWithin self.new (D.seen disk.new) }
+    {
+        self.append_to(self.current, disk, frame)
+    }
+
+    /// Adds a root's frame to the root log that is empty, the first if both are. Once it answers Ok, each crash leaves
+    /// it.
+    ///
+    /// Four device calls and no memory.
+    pub fn append_root<D: Disk>(&mut self, disk: &mut D, frame: &Frame) -> Result<(), LogRefusal>
+        requires within { AreWithin self.old (D.seen disk.old) }
+        requires empty { HasEmptyRootLog self.old }
+        ensures root { (file : ℕ) × root_log_of self.old file × Appends D.seen D.may_leave D.moment D.left_since
+            D.faults file frame.now self.old self.new disk.old disk.new result }
+        ensures within { AreWithin self.new (D.seen disk.new) }
+    {
+        let file = if self.two.is_empty() { 2 } else { 3 };
+        self.append_to(file, disk, frame)
+    }
+
+    // Adds a frame to the log of this number.
+    fn append_to<D: Disk>(
+        &mut self,
+        file: u8,
+        disk: &mut D,
+        frame: &Frame,
+    ) -> Result<(), LogRefusal>
+        requires file { file < LOG_COUNT }
+        requires within { AreWithin self.old (D.seen disk.old) }
+        ensures frame { Appends D.seen D.may_leave D.moment D.left_since D.faults file frame.now
+            self.old self.new disk.old disk.new result }
+        ensures within { AreWithin self.new (D.seen disk.new) }
+    {
+        match file {
+            0 => self.zero.append(disk, frame),
+            1 => self.one.append(disk, frame),
+            2 => self.two.append(disk, frame),
+            _ => self.three.append(disk, frame),
+        }
+    }
+
+    // The journal that takes the next entry.
+    fn current_journal(&self) -> &Log
+        ensures { result.now ≡ current_log self.now }
+    {
+        match self.current {
+            0 => &self.zero,
+            _ => &self.one,
+        }
+    }
+
+    /// The end that the current journal would have with this frame.
+    pub fn end_with(&self, frame: &Frame) -> u64
+        ensures { result ≡ end_of (current_log self.now) + 9 + length frame.now }
+    {
+        self.current_journal().end_with(frame)
+    }
+
+    /// How many logs are to be reset: the older root log where both have frames, and the journal that isn't current
+    /// where its frames are all up to the checkpoint.
+    pub fn owed(&self) -> u32
+        ensures { result ≡ owed_of self.now }
+    {
+        let owes_root = !self.two.is_empty() && !self.three.is_empty();
+        let owes_journal = !self.frozen && !self.other_journal().is_empty();
+        u32::from(owes_root) + u32::from(owes_journal)
+    }
+
+    // The other one.
+    fn other_journal(&self) -> &Log
+        ensures { result.now ≡ other_log self.now }
+    {
+        match self.current {
+            0 => &self.one,
+            _ => &self.zero,
+        }
+    }
+
+    /// Whether a log is down.
+    pub fn is_down(&self) -> bool
+        ensures { IsTrue result ↔ (AreUp self.now → ⊥) }
+    {
+        self.zero.is_down() || self.one.is_down() || self.two.is_down() || self.three.is_down()
+    }
+
+    /// Whether a fault may have opened the gate behind the last entry.
+    pub fn is_entry_pending(&self) -> bool
+        ensures { IsTrue result ↔ IsTouched (current_log self.now) }
+    {
+        self.current_journal().is_touched()
+    }
+}

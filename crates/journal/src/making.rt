@@ -1,0 +1,112 @@
+// Making the logs of an empty database.
+ghost use Rattle.std.specs.Prelude.{◌≡◌, ◌⊎◌, ◌↔◌, [], IsTrue, IsSome, IfSome, IfOk, IfErr};
+ghost use Rattle.disk_model.specs.Causes.{HasCause};
+ghost use Rattle.doc_meaning.specs.History.{settings_of};
+ghost use Rattle.frame_log.specs.Calls.{Blames};
+ghost use Rattle.frame_log.specs.Standing.{IsEmpty, IsUp, IsWithin, OnlyRead, Since, file_of};
+ghost use Rattle.journal.specs.Making.{HasShortNames, IsEmptyJournal, IsRefusal, IsUsed};
+ghost use Rattle.journal.specs.Opening.{Made, MakesShown};
+ghost use Rattle.journal.specs.Refusing.{HasNoRoot, NotMade};
+ghost use Rattle.journal.specs.Standing.{AreWithin, StandsWith};
+ghost use Rattle.journal.specs.declared.refusal.MakeRefusal.TheVariants.{Fault};
+ghost use Rattle.journal_bodies.specs.Roots.{SpellsRoot};
+ghost use Rattle.journal_meaning.specs.Laws.{no_bodies};
+ghost use Rattle.journal_meaning.specs.Shown.{first_root};
+
+use crate::journal::Journal;
+use crate::refusal::MakeRefusal;
+use crate::root_logs::{RootLogs, read_root_logs};
+use crate::syncing::settle;
+use disk_model::{Disk, Failed};
+use doc_model::Settings;
+use frame_log::{Frame, Log};
+use journal_bodies::{Root, root_body};
+use sqlite_items::Items;
+use std::alloc::{AllocError, Global};
+
+/// Makes the logs of an empty database of these settings, where no root log has a root.
+///
+/// The root logs are read first; where one is damaged or has a root nothing is changed. Then both are synced, both
+/// journals are made empty whatever they hold, and the first root is appended to log 2. All memory is taken before
+/// anything is changed.
+pub fn make<D: Disk>(
+    alloc: Global,
+    disk: &mut D,
+    settings: &Settings,
+) -> Result<Journal, MakeRefusal>
+    requires { HasShortNames settings.now }
+    ensures made { IfOk result (λ journal. IfSome (D.seen disk.old) (λ image.
+        HasNoRoot image × Made D.seen D.may_leave settings.now disk.new journal)) }
+    ensures refused { IfErr result (λ why. IfSome (D.seen disk.old) (λ image. NotMade image why)) }
+    ensures images { IsSome (D.seen disk.old) →
+        MakesShown D.may_leave D.moment D.left_since (settings_of settings.now) disk.old disk.new }
+    ensures used { IfSome (D.seen disk.old) (λ image. IsUsed image →
+        OnlyRead D.seen D.may_leave D.moment D.left_since disk.old disk.new) }
+    ensures kept { IfErr result (λ why. IsRefusal why →
+        OnlyRead D.seen D.may_leave D.moment D.left_since disk.old disk.new) }
+    ensures within { IfOk result (λ journal. AreWithin journal (D.seen disk.new)) }
+    ensures cause { Blames Fault (D.faults disk.old) (D.faults disk.new) result }
+{
+    let roots = read_root_logs(alloc, disk)?;
+    if !are_empty(&roots) {
+        return Err(MakeRefusal::AlreadyThere);
+    }
+    let frame = first_frame(alloc, settings)?;
+    let mut journal = empty_journal(disk, roots.first.log, roots.second.log)?;
+    journal.append_root(disk, &frame)?;
+    Ok(journal)
+}
+
+// Whether no root log has a root.
+fn are_empty(roots: &RootLogs) -> bool
+    ensures { IsTrue result ↔ ((roots.now.first.roots.items ≡ []) × (roots.now.second.roots.items ≡ [])) }
+{
+    roots.first.roots.is_empty() && roots.second.roots.is_empty()
+}
+
+// The frame of the first root.
+fn first_frame(alloc: Global, settings: &Settings) -> Result<Frame, AllocError>
+    requires { HasShortNames settings.now }
+    ensures { IfOk result (λ frame. SpellsRoot frame (first_root settings.now)) }
+{
+    let root = Root {
+        number: 1,
+        checkpoint: 0,
+        merge: 0,
+        horizon: 0,
+        next: 1,
+        settings: settings.copy(alloc)?,
+        parts: Items::new(alloc),
+        removed: Items::new(alloc),
+    };
+    let body = root_body(alloc, &root)?;
+    Frame::of(alloc, &body)
+}
+
+// Syncs empty root logs, and makes both journals empty.
+fn empty_journal<D: Disk>(disk: &mut D, root_0: Log, root_1: Log) -> Result<Journal, Failed>
+    requires files { (file_of root_0 ≡ 2) × (file_of root_1 ≡ 3) }
+    requires up { IsUp root_0 × IsUp root_1 }
+    requires empty { IsEmpty root_0 × IsEmpty root_1 }
+    requires within { IsWithin root_0 (D.seen disk.old) × IsWithin root_1 (D.seen disk.old) }
+    ensures journal { IfOk result IsEmptyJournal }
+    ensures stands { IfOk result (λ journal. IfSome (D.seen disk.old) (λ image. HasNoRoot image →
+        StandsWith D.seen D.may_leave journal disk.new no_bodies no_bodies)) }
+    ensures images { IfSome (D.seen disk.old) (λ image. HasNoRoot image →
+        Since D.moment D.left_since disk.old disk.new (λ c. D.may_leave disk.old c ⊎ HasNoRoot c)) }
+    ensures within { IfOk result (λ journal. AreWithin journal (D.seen disk.new)) }
+    ensures cause { HasCause (D.faults disk.old) (D.faults disk.new) result }
+{
+    settle(disk, 2)?;
+    settle(disk, 3)?;
+    let zero = Log::blank(disk, 0)?;
+    let one = Log::blank(disk, 1)?;
+    Ok(Journal {
+        zero,
+        one,
+        two: root_0,
+        three: root_1,
+        current: 0,
+        frozen: false,
+    })
+}

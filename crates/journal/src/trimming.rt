@@ -1,0 +1,89 @@
+// Cutting logs behind their last gates, and taking a journal's frames away.
+ghost use Rattle.std.specs.Prelude.{◌≡◌, ◌<◌, ◌≤◌, ◌+◌, ℕ, OnOk};
+ghost use Rattle.disk_model.specs.declared.disk.TheConstants.{LOG_COUNT};
+ghost use Rattle.disk_model.specs.Causes.{HasCause};
+ghost use Rattle.frame_log.specs.Standing.{IsTrimmed, IsUp};
+ghost use Rattle.journal.specs.Reading.{AreTrimmed, AreUpTo, KeepsFrames, KeepsTrimmed};
+ghost use Rattle.journal.specs.Reading.{LosesFirst, MakesReady, SameTurns};
+ghost use Rattle.journal.specs.Standing.{AreWithin, OnlyLog, log_of};
+
+use crate::journal::Journal;
+use disk_model::{Disk, LOG_COUNT};
+use frame_log::LogRefusal;
+
+impl Journal {
+    // Cuts each log behind its last gate, and takes the first journal's frames away where that is asked.
+    pub(crate) fn make_ready<D: Disk>(
+        &mut self,
+        disk: &mut D,
+        resets_first: bool,
+    ) -> Result<(), LogRefusal>
+        requires { AreWithin self.old (D.seen disk.old) }
+        ensures frames { MakesReady D.seen D.may_leave D.moment D.left_since self.old self.new disk.old disk.new
+            resets_first result }
+        ensures up { OnOk result (AreUpTo LOG_COUNT self.new) }
+        ensures trimmed { OnOk result (AreTrimmed LOG_COUNT self.new (D.seen disk.new) (D.may_leave disk.new)) }
+        ensures turns { SameTurns self.old self.new }
+        ensures within { AreWithin self.new (D.seen disk.new) }
+        ensures cause { HasCause (D.faults disk.old) (D.faults disk.new) result }
+    {
+        self.trim_all(disk)?;
+        if resets_first {
+            self.reset_first(disk)?;
+        }
+        Ok(())
+    }
+
+    // Cuts each log behind its last gate, and syncs it.
+    pub(crate) fn trim_all<D: Disk>(&mut self, disk: &mut D) -> Result<(), LogRefusal>
+        requires { AreWithin self.old (D.seen disk.old) }
+        ensures frames { KeepsFrames D.seen D.may_leave D.moment D.left_since self.old self.new disk.old disk.new }
+        ensures up { OnOk result (AreUpTo LOG_COUNT self.new) }
+        ensures trimmed { OnOk result (AreTrimmed LOG_COUNT self.new (D.seen disk.new) (D.may_leave disk.new)) }
+        ensures turns { SameTurns self.old self.new }
+        ensures within { AreWithin self.new (D.seen disk.new) }
+        ensures cause { HasCause (D.faults disk.old) (D.faults disk.new) result }
+    {
+        for file in 0..LOG_COUNT {
+            self.trim(file, disk)?;
+        }
+        Ok(())
+    }
+
+    // Cuts the log of this number behind its last gate, and syncs it.
+    fn trim<D: Disk>(&mut self, file: u8, disk: &mut D) -> Result<(), LogRefusal>
+        requires file { file < LOG_COUNT }
+        requires within { AreWithin self.old (D.seen disk.old) }
+        ensures frames { KeepsFrames D.seen D.may_leave D.moment D.left_since self.old self.new disk.old disk.new }
+        ensures up { OnOk result (IsUp (log_of self.new file)) }
+        ensures trimmed { OnOk result (IsTrimmed (log_of self.new file) (D.seen disk.new) (D.may_leave disk.new)) }
+        ensures rest { KeepsTrimmed file self.old self.new (D.seen disk.old) (D.seen disk.new)
+            (D.may_leave disk.old) (D.may_leave disk.new) }
+        ensures others { OnlyLog file self.old self.new }
+        ensures within { AreWithin self.new (D.seen disk.new) }
+        ensures cause { HasCause (D.faults disk.old) (D.faults disk.new) result }
+    {
+        match file {
+            0 => self.zero.revive(disk),
+            1 => self.one.revive(disk),
+            2 => self.two.revive(disk),
+            _ => self.three.revive(disk),
+        }
+    }
+
+    // Takes all frames of the first journal away.
+    pub(crate) fn reset_first<D: Disk>(&mut self, disk: &mut D) -> Result<(), LogRefusal>
+        requires within { AreWithin self.old (D.seen disk.old) }
+        requires up { IsUp (log_of self.old 0) }
+        ensures frames { LosesFirst D.seen D.may_leave D.moment D.left_since
+            self.old self.new disk.old disk.new result }
+        ensures up { OnOk result (IsUp (log_of self.new 0)) }
+        ensures trimmed { OnOk result (AreTrimmed LOG_COUNT self.old (D.seen disk.old) (D.may_leave disk.old)
+            → AreTrimmed LOG_COUNT self.new (D.seen disk.new) (D.may_leave disk.new)) }
+        ensures others { OnlyLog 0 self.old self.new }
+        ensures within { AreWithin self.new (D.seen disk.new) }
+        ensures cause { HasCause (D.faults disk.old) (D.faults disk.new) result }
+    {
+        self.zero.reset(disk)
+    }
+}
