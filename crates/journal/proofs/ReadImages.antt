@@ -122,7 +122,7 @@ module _ {D : Type 0} (seen : D → Option Image) (may_leave : D → Outcomes) (
       let at_2 = assembles.root_0 in
       let at_3 = assembles.root_1 in
       let chooses = told.replays.current (told.first_journal.from, told.first_journal.rises)
-          (told.second_journal.from, told.second_journal.rises) in
+      (told.second_journal.from, told.second_journal.rises) in
       record {
         read = four first second third fourth;
         history = history_of newest.root journals.replay;

@@ -9,6 +9,8 @@ mod reading;
 mod refusal;
 mod root_logs;
 mod syncing;
+#[cfg(test)]
+mod tests;
 mod trimming;
 
 pub use journal::Journal;
