@@ -34,8 +34,10 @@ fn asks_quit(line: &[u8]) -> bool
 
 // How a line that doesn't ask to quit is answered: an empty one isn't.
 fn answer<R, S: Service>(rt: &R, alloc: Global, service: &mut S, line: &[u8]) -> Option<Reply>
-    requires { Asks line.now Quit → ⊥ }
-    ensures { AnswersLine S.answers service.old line.now result service.new }
+    requires stays { Asks line.now Quit → ⊥ }
+    requires ready { S.ready service.old }
+    ensures answers { AnswersLine S.answers service.old line.now result service.new }
+    ensures ready { S.ready service.new }
 {
     match read_line(alloc, line) {
         Ok(None) => None,
@@ -54,8 +56,10 @@ pub fn answer_line<R, S: Service, W: Sink>(
     outbox: &mut Outbox,
     sink: &mut W,
 ) -> Result<(), SessionEnd>
+    requires { S.ready service.old }
     ensures answers { AnswersOne S.answers service.old service.new line.now result
         outbox.old outbox.new (W.written sink.old) (W.written sink.new) }
+    ensures ready { S.ready service.new }
     ensures room { OnOk result (length outbox.old < most_waiting → length outbox.new < most_waiting) }
     ensures fault { Blames (W.faults sink.old) (W.faults sink.new) (result ≡ Err WriteFault) }
 {

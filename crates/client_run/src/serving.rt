@@ -20,6 +20,7 @@ pub fn session<R, S: Service, I: Source, W: Sink>(
     source: &mut I,
     sink: &mut W,
 ) -> SessionEnd
+    requires { S.ready service.old }
     ensures serves { (input : List ℕ) × (output : List ℕ) × (over : Bool)
         × Consumes (I.left source.old) (I.left source.new) input
         × Appends (W.written sink.old) (W.written sink.new) output

@@ -54,7 +54,9 @@ pub fn step<R, S: Service, I: Source, W: Sink>(
     sink: &mut W,
     served: u64,
 ) -> Result<(), SessionEnd>
-    requires { served ≤ most_lines }
+    requires few { served ≤ most_lines }
+    requires ready { S.ready service.old }
+    ensures ready { S.ready service.new }
     ensures steps { Steps S.answers result
         (point service.old (I.left source.old) (W.written sink.old) outbox.old reader.old)
         (point service.new (I.left source.new) (W.written sink.new) outbox.new reader.new) served }

@@ -24,7 +24,7 @@ use Rattle.journal.specs.Calls.{Appends}
 use Rattle.journal.specs.Making.{IsEmptyJournal, IsUsed}
 use Rattle.journal.specs.Opening.{Made, MakesShown, ShowsAs}
 use Rattle.journal.specs.Refusing.{HasNoRoot, IsTaken}
-use Rattle.journal.specs.Standing.{StandsWith, has_frames, log_of, other_log, root_log_of}
+use Rattle.journal.specs.Standing.{AreUp, StandsWith, has_frames, log_of, other_log, root_log_of}
 use Rattle.journal.specs.Refusals.{of_log}
 use Rattle.journal.specs.declared.journal.Journal.{Journal}
 use Rattle.journal.specs.declared.refusal.MakeRefusal.{MakeRefusal}
@@ -165,6 +165,13 @@ module _ {D : Type 0} (seen : D → Option Image) (may_leave : D → Outcomes) (
       (appends.frames no_bodies stands (empty.up 2 (omega arith))).any_moment
       (λ c has. inr (first_shown body spelled c has)))
 
+  -- no log is down where the first root was appended
+  pub made_up : {T : Type 0} (faults : D → ℕ) (body : List ℕ) (journal after : Journal) (mid new : D) (v : T)
+      → IsEmptyJournal journal → Appends seen may_leave moment left_since faults 2 body journal after mid new (Ok v)
+      → AreUp after
+  made_up faults body journal after mid new v empty appends = each_log (λ k. IsUp (log_of after k)) 2
+      appends.answer.answer.1 (λ k lt apart. rw (appends.others.others k lt apart) (empty.up k lt))
+
   pub made : {T : Type 0} (faults : D → ℕ) (body : List ℕ) (journal after : Journal) (mid new : D) (v : T)
       → SpellsRoot body (first_root settings) → IsEmptyJournal journal
       → StandsWith seen may_leave journal mid no_bodies no_bodies
@@ -177,8 +184,7 @@ module _ {D : Type 0} (seen : D → Option Image) (may_leave : D → Outcomes) (
       record {
         body = body;
         first = spelled;
-        up = each_log (λ k. IsUp (log_of after k)) 2 appends.answer.answer.1
-            (λ k lt apart. rw (appends.others.others k lt apart) (empty.up k lt));
+        up = made_up faults body journal after mid new v empty appends;
         stands = (appends.frames no_bodies stands (empty.up 2 (omega arith))).now;
         current = current;
         owes = none_owed (has_frames after.two) (not after.frozen) (has_frames after.three) (has_frames (other_log

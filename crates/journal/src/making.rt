@@ -7,7 +7,7 @@ ghost use Rattle.frame_log.specs.Standing.{IsEmpty, IsUp, IsWithin, OnlyRead, Si
 ghost use Rattle.journal.specs.Making.{HasShortNames, IsEmptyJournal, IsRefusal, IsUsed};
 ghost use Rattle.journal.specs.Opening.{Made, MakesShown};
 ghost use Rattle.journal.specs.Refusing.{HasNoRoot, NotMade};
-ghost use Rattle.journal.specs.Standing.{AreWithin, StandsWith};
+ghost use Rattle.journal.specs.Standing.{AreUp, AreWithin, StandsWith};
 ghost use Rattle.journal.specs.declared.refusal.MakeRefusal.TheVariants.{Fault};
 ghost use Rattle.journal_bodies.specs.Roots.{SpellsRoot};
 ghost use Rattle.journal_meaning.specs.Laws.{no_bodies};
@@ -44,6 +44,7 @@ pub fn make<D: Disk>(
         OnlyRead D.seen D.may_leave D.moment D.left_since disk.old disk.new) }
     ensures kept { IfErr result (λ why. IsRefusal why →
         OnlyRead D.seen D.may_leave D.moment D.left_since disk.old disk.new) }
+    ensures up { IfOk result (λ journal. AreUp journal) }
     ensures within { IfOk result (λ journal. AreWithin journal (D.seen disk.new)) }
     ensures cause { Blames Fault (D.faults disk.old) (D.faults disk.new) result }
 {

@@ -1,14 +1,15 @@
 // Opening the logs of a directory.
-ghost use Rattle.std.specs.Prelude.{◌≡◌, ◌≤◌, IsSome, IfSome, IfOk, IfErr};
+ghost use Rattle.std.specs.Prelude.{◌≡◌, ◌≤◌, ◌+◌, IsSome, IfSome, IfOk, IfErr};
 ghost use Rattle.frame_log.specs.Calls.{Blames};
 ghost use Rattle.frame_log.specs.Standing.{OnlyRead};
 ghost use Rattle.journal.specs.Assembling.{Assembles, ReadsAll};
 ghost use Rattle.journal.specs.EntryReading.{TakesTurns};
 ghost use Rattle.journal.specs.Opening.{KeepsShown, Opened};
 ghost use Rattle.journal.specs.Refusing.{NotScanned};
-ghost use Rattle.journal.specs.Standing.{AreWithin};
+ghost use Rattle.journal.specs.Standing.{AreUp, AreWithin};
 ghost use Rattle.journal.specs.declared.refusal.JournalRefusal.TheVariants.{Fault};
 ghost use Rattle.frame_log.specs.Standing.{file_of};
+ghost use Rattle.journal_meaning.specs.Bodies.{RiseFrom};
 
 use crate::journal::Journal;
 use crate::journals::{Journals, in_turn, read_journals};
@@ -40,6 +41,8 @@ pub fn scan_all<D: Disk>(alloc: Global, disk: &mut D) -> Result<(Journal, Scanne
         Opened D.seen D.may_leave image disk.new f.0 f.1)) }
     ensures refused { IfErr result (λ why. IfSome (D.seen disk.old) (λ image. NotScanned image why)) }
     ensures images { IsSome (D.seen disk.old) → KeepsShown D.may_leave D.moment D.left_since disk.old disk.new }
+    ensures up { IfOk result (λ f. AreUp f.0) }
+    ensures rises { IfOk result (λ f. RiseFrom (f.1.root.checkpoint + 1) f.1.entries.items) }
     ensures within { IfOk result (λ f. AreWithin f.0 (D.seen disk.new)) }
     ensures cause { Blames Fault (D.faults disk.old) (D.faults disk.new) result }
 {
@@ -63,6 +66,7 @@ fn read_all<D: Disk>(alloc: Global, disk: &mut D) -> Result<ReadAll, JournalRefu
     ensures found { IfOk result (λ found. IfSome (D.seen disk.old) (λ image.
         ReadsAll D.seen D.may_leave image disk.old disk.new found)) }
     ensures refused { IfErr result (λ why. IfSome (D.seen disk.old) (λ image. NotScanned image why)) }
+    ensures rises { IfOk result (λ found. RiseFrom (found.scanned.root.checkpoint + 1) found.scanned.entries.items) }
     ensures within { IfOk result (λ found. AreWithin found.journal (D.seen disk.new)) }
     ensures read { OnlyRead D.seen D.may_leave D.moment D.left_since disk.old disk.new }
     ensures cause { Blames Fault (D.faults disk.old) (D.faults disk.new) result }

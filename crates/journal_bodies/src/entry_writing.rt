@@ -6,7 +6,7 @@ ghost use Rattle.journal_bodies.specs.Entries.{HasValues, IsEntry, SpellsEntry, 
 ghost use Rattle.journal_bodies.specs.Roots.{listed, long};
 
 use crate::kinds::{COMMIT, FORGET, PUT, REMOVE};
-use doc_model::{Entry, Op};
+use doc_model::{Entry, Op, Ops};
 use docs_format::{put_count, put_document, put_kind, put_long, put_text};
 use std::alloc::{AllocError, Global};
 
@@ -17,6 +17,19 @@ pub fn entry_body(alloc: Global, number: u64, entry: &Entry) -> Result<Vec<u8>, 
 {
     let mut out = Vec::new(alloc);
     put_entry(&mut out, number, entry)?;
+    Ok(out)
+}
+
+/// The bytes of a commit under its number; its one spelling, where it names no URI twice and expects timestamps below
+/// 2^48.
+pub fn commit_body(alloc: Global, number: u64, ops: &Ops) -> Result<Vec<u8>, AllocError>
+    ensures written { IfOk result (λ bytes. bytes.items ≡ entry number (entry_kind.Commit ops.now)) }
+    ensures values { IfOk result (λ _. HasValues (entry_kind.Commit ops.now)) }
+    ensures spelled { IsEntry number (entry_kind.Commit ops.now)
+        → IfOk result (λ bytes. SpellsEntry bytes.items number (entry_kind.Commit ops.now)) }
+{
+    let mut out = Vec::new(alloc);
+    put_commit(&mut out, number, ops.as_slice())?;
     Ok(out)
 }
 

@@ -16,7 +16,7 @@ mod root_writing;
 mod uris;
 
 pub use entry_reading::read_entry;
-pub use entry_writing::entry_body;
+pub use entry_writing::{commit_body, entry_body};
 pub use fault::BodyBad;
 pub use laws::{entries_are_read, entries_end_early, roots_are_read, roots_end_early};
 pub use root::{PartFiles, Root};

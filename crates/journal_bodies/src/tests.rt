@@ -116,6 +116,18 @@ fn a_commit_of_one_document_is_read(rt: HostRuntime) -> Result<(), Fail> {
 }
 
 #[test]
+fn a_commit_is_written_as_its_entry(rt: HostRuntime) -> Result<(), Fail> {
+    let alloc = rt.alloc();
+    let (number, entry) = read_entry(alloc, THREE).ok().ok_or("these are an entry")?;
+    let Entry::Commit(ops) = entry else {
+        return Err("it is a commit".into());
+    };
+    let bytes = commit_body(alloc, number, &ops)?;
+    assert_eq!(rt; bytes.as_slice(), THREE.as_slice());
+    Ok(())
+}
+
+#[test]
 fn three_operations_are_read(rt: HostRuntime) -> Result<(), Fail> {
     let (number, entry) = read_entry(rt.alloc(), THREE)
         .ok()

@@ -1,5 +1,5 @@
 -- How long the bytes of an entry are at most.
-use Rattle.std.proofs.Common.{◌≡◌, ℕ, ℤ, Bool, true, false, ◌+◌, ◌*◌, ◌≤◌, not, cond, List, [], ◌∷◌, ◌++◌, map, length, sum, sum_by, Option, Some, None, is_none, refl, sym, ap, subst₂, arith, length-append}
+use Rattle.std.proofs.Common.{◌≡◌, ℕ, ℤ, Bool, true, false, ◌+◌, ◌*◌, ◌^◌, ◌≤◌, not, cond, List, [], ◌∷◌, ◌++◌, map, length, sum, sum_by, Option, Some, None, is_none, refl, sym, ap, subst₂, arith, length-append}
 use Rattle.std.specs.Int.{w128, cast_unsigned}
 use Rattle.std.specs.List.{flat_map, list_all}
 use Rattle.std.proofs.lemmas.Bool.{and_parts, leb-true}
@@ -18,7 +18,7 @@ use Rattle.doc_model.specs.declared.op.Op.{Op}
 use Rattle.doc_model.specs.declared.op.Op.TheVariants.{Put, Remove}
 use Rattle.doc_model.specs.declared.refusal.DocRefusal.{DocRefusal}
 use Rattle.docs_format.specs.Spelling.{are_values, count, document, node, node_step, number, text, texts}
-use Rattle.journal_bodies.specs.Entries.{expect, has_values, op}
+use Rattle.journal_bodies.specs.Entries.{HasValues, entry, expect, has_values, op}
 use Rattle.journal_bodies.specs.Roots.{listed, long}
 use Rattle.journal_bodies.proofs.OpLists.{is_commit}
 use Rattle.journal_bodies.proofs.Truths.{from_true}
@@ -177,21 +177,29 @@ ops_short (o ∷ ops) values removes =
       ops_short ops these.1 those.1,
     )
 
-pub frames_are_short : FramesAreShort
-frames_are_short body number (Commit ops) spells =
-    let commit = is_commit ops spells.values.0.rules in
-    let values = from_true (list_all has_values ops) spells.values.1 in
-    let removes = from_true (list_all removes_uri ops) spells.values.0.uris in
+-- a commit has as many bytes under each number
+pub commit_length : (number : ℕ) (ops : List Op) → length (entry number (Commit ops)) ≡ 9 + length (listed op ops)
+commit_length number ops = omega (arith, length-append (long number) (listed op ops), length-long number)
+
+-- whatever its operations expect
+pub commit_is_short : (number : ℕ) (ops : List Op) → HasValues (Commit ops) →
+    length (entry number (Commit ops)) + 10 ≤ 2 ^ 31
+commit_is_short number ops kept =
+    let commit = is_commit ops kept.0.rules in
+    let values = from_true (list_all has_values ops) kept.1 in
+    let removes = from_true (list_all removes_uri ops) kept.0.uris in
     omega (
       arith,
-      ap length spells.spelled,
-      length-append (long number) (listed op ops),
-      length-long number,
+      commit_length number ops,
       length-listed op ops,
       ops_short ops values removes,
       commit.few,
       commit.small,
     )
+
+pub frames_are_short : FramesAreShort
+frames_are_short body number (Commit ops) spells =
+    omega (arith, ap length spells.spelled, commit_is_short number ops spells.values)
 frames_are_short body number (Forget stamp) spells = omega (
   arith,
   ap length spells.spelled,

@@ -130,9 +130,14 @@ same_told some others h same told = record {
   horizon = told.horizon;
 }
 
+-- the frames of an image tell one history at most
+pub one_is_told : (image : Image) (some others : Bodies) (h k : History) → HasBodies some image →
+    HasBodies others image → Tells some h → Tells others k → h ≡ k
+one_is_told image some others h k has_some has_others one two = one_history others h k
+    (same_told some others h (λ file known. one_frames some others image file has_some has_others known) one) two
+
 pub one_base_is_shown : OneBaseIsShown
 one_base_is_shown image base other one two =
-    let told : Tells two.bodies one.history =
-    same_told one.bodies two.bodies one.history
-    (λ file known. one_frames one.bodies two.bodies image file one.has two.has known) one.tells in
-    one.shown ∙ ap shown (one_history two.bodies one.history two.history told two.tells) ∙ sym two.shown
+    one.shown
+    ∙ ap shown (one_is_told image one.bodies two.bodies one.history two.history one.has two.has one.tells two.tells)
+    ∙ sym two.shown

@@ -15,6 +15,7 @@ impl MemoryWorld {
     /// A world of these clients, without directories.
     pub fn new(alloc: Global, waiting: VecDeque<MemoryClient>, plan: Plan) -> Self
         ensures stores { ⟦<MemoryWorld as World>⟧.stores result ≡ none_handed }
+        ensures directories { ⟦<MemoryWorld as World>⟧.directories result ≡ [] }
         ensures clients { ⟦<MemoryWorld as World>⟧.clients result ≡ none_handed }
         ensures stands { (dir : List ℕ) → ⟦<MemoryWorld as World>⟧.stands result dir ≡ Some None }
         ensures printed { ⟦<MemoryWorld as World>⟧.printed result ≡ Some [] }

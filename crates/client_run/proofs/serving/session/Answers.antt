@@ -12,6 +12,7 @@ pub lines-init : goal.lines-init
 lines-init g c = record {
   so_far = rw (c.in-Ok.ensures.0, c.in-Ok.ensures.1) (begins g.S.Service.answers c.args.service.now (g.I.Source.left c.args.source.now) (g.W.Sink.written c.args.sink.now));
   few = omega arith;
+  ready = c.requires;
   source_later = omega arith;
   sink_later = omega arith;
 }
@@ -31,6 +32,7 @@ lines-preserved g c =
     record {
       so_far = stepped.1;
       few = omega (arith, stepped.0);
+      ready = c.in-Ok-step.ensures.ready;
       source_later = omega (arith, c.lines.invariant.source_later, c.in-Ok-step.ensures.read_fault.later);
       sink_later = omega (arith, c.lines.invariant.sink_later, c.in-Ok-step.ensures.write_fault.later);
     }

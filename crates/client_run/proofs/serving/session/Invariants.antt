@@ -8,6 +8,7 @@ invariant-lines g l = record {
   so_far : SoFar g.S.Service.answers (start l.fn.service (g.I.Source.left l.fn.source) (g.W.Sink.written l.fn.sink))
       (point l.service (g.I.Source.left l.source) (g.W.Sink.written l.sink) l.outbox l.reader) l.served;
   few : l.served ≤ most_lines;
+  ready : g.S.Service.ready l.service;
   source_later : g.I.Source.faults l.fn.source ≤ g.I.Source.faults l.source;
   sink_later : g.W.Sink.faults l.fn.sink ≤ g.W.Sink.faults l.sink;
 }

@@ -9,7 +9,8 @@ use Rattle.journal_reading.specs.Reading.{items_of}
 use Rattle.journal.specs.Opening.{MakesShown}
 use Rattle.journal.specs.Refusing.{HasNoRoot}
 use Rattle.journal.specs.Standing.{StandsWith}
-use Rattle.journal.proofs.Makes.{blank_shown, first_appended, first_cause, first_images, is_taken, made, not_used}
+use Rattle.journal.proofs.Makes.{blank_shown, first_appended, first_cause, first_images, is_taken}
+use Rattle.journal.proofs.Makes.{made, made_up, not_used}
 use Rattle.journal.proofs.RootReads.{none_there, zip_none}
 use Rattle.journal.proofs.Shows.{with_told}
 use Rattle.journal.proofs.making.make.Goals as goal
@@ -120,6 +121,16 @@ returns-clause-made g c =
           g.D.Disk.faults c.in_ok-frame.frame c.in_ok-journal.journal c.append_root.new.self c.empty_journal.new.disk
           c.append_root.new.disk _ c.in_ok-frame.ensures c.in_ok-journal.ensures.journal (go bare) appends,
     ))
+
+pub returns-clause-up : goal.returns-clause-up
+returns-clause-up g c =
+    let appends = first_appended g.D.Disk.seen g.D.Disk.may_leave g.D.Disk.moment g.D.Disk.left_since
+    c.args.settings.now
+    g.D.Disk.faults c.in_ok-frame.frame c.in_ok-journal.journal c.append_root.new.self c.empty_journal.new.disk
+    c.append_root.new.disk _ c.in_ok-journal.ensures.journal c.in_ok-append_root.ensures.root in
+    made_up g.D.Disk.seen g.D.Disk.may_leave g.D.Disk.moment g.D.Disk.left_since c.args.settings.now
+    g.D.Disk.faults c.in_ok-frame.frame c.in_ok-journal.journal c.append_root.new.self c.empty_journal.new.disk
+    c.append_root.new.disk _ c.in_ok-journal.ensures.journal appends
 
 pub returns-in_err-append_root-clause-cause : goal.returns-in_err-append_root-clause-cause
 returns-in_err-append_root-clause-cause g c =
