@@ -1,0 +1,11 @@
+pub mod Expected
+pub mod Stamps
+pub mod Same
+pub mod Entered
+pub mod Standings
+pub mod Appending
+pub mod Entering
+pub mod Refusing
+pub mod Opened
+pub mod Created
+pub mod Lengths

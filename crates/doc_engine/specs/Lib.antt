@@ -1,0 +1,9 @@
+pub mod Created
+pub mod Held
+pub mod Standing
+pub mod Checks
+pub mod Calls
+pub mod Laws
+pub mod Restoring
+pub mod Opening
+pub mod Finding

@@ -1,0 +1,62 @@
+// What is checked before an entry is made.
+ghost use Rattle.std.specs.Prelude.{◌≡◌, OnOk, IfOk, IfErr};
+
+use crate::engine::Engine;
+use crate::refusal::CommitRefusal;
+use disk_model::{Disk, Yard};
+use doc_model::Ops;
+use frame_log::Frame;
+use journal_bodies::commit_body;
+use live_documents::first_twice;
+
+// The last timestamp, 2^48-1.
+pub(crate) const LAST_TIMESTAMP: u64 = 281_474_976_710_655;
+
+// Where a log is at its longest.
+const LONGEST: u64 = 1 << 62;
+
+impl<D: Disk, Y: Yard> Engine<D, Y> {
+    ghost use Rattle.doc_engine.specs.Checks.{HasNoRoom, HasRoom, MayEnter, MayNotEnter};
+    ghost use Rattle.doc_engine.specs.Held.{held_of, journal_of};
+
+    // Whether a log fault stands, a URI is named twice, or an operation expects another version than the live one.
+    pub(crate) fn check(&self, ops: &Ops) -> Result<(), CommitRefusal>
+        ensures may { OnOk result (MayEnter (held_of self.now) ops.now) }
+        ensures refused { IfErr result (MayNotEnter (held_of self.now) ops.now) }
+    {
+        if let Some(faults) = self.down {
+            return Err(CommitRefusal::Down { faults });
+        }
+        if let Some(uri) = first_twice(self.alloc, ops)? {
+            return Err(CommitRefusal::Twice { uri });
+        }
+        if let Some(conflict) = self.live.conflict(self.alloc, ops)? {
+            return Err(CommitRefusal::Conflict {
+                uri: conflict.uri,
+                found: conflict.found,
+                front: self.front,
+            });
+        }
+        Ok(())
+    }
+
+    // The frame of the next entry, where a timestamp is left and the journal has room. Its length is that under any
+    // number.
+    pub(crate) fn frame(&self, ops: &Ops) -> Result<Frame, CommitRefusal>
+        requires { MayEnter (held_of self.now) ops.now }
+        ensures room { IfOk result (HasRoom (held_of self.now).front (journal_of self.now) ops.now) }
+        ensures refused { IfErr result (HasNoRoom (held_of self.now).front (journal_of self.now) ops.now) }
+    {
+        let number = self.front.saturating_add(1);
+        let body = commit_body(self.alloc, number, ops)?;
+        let frame = Frame::of(self.alloc, &body)?;
+        let end = self.journal.end_with(&frame);
+        if end >= LONGEST || self.front >= LAST_TIMESTAMP {
+            return Err(CommitRefusal::Spent {
+                front: self.front,
+                end,
+            });
+        }
+        Ok(frame)
+    }
+}
