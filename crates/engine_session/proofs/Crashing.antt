@@ -1,0 +1,159 @@
+-- What a crash leaves since each turn, with one turn more.
+use Rattle.std.proofs.Common.{◌≡◌, ◌≤◌, ◌<◌, ◌⊎◌, inl, inr, ⊎_elim, ℕ, zero, suc, List, [], ◌∷◌, ◌++◌, length}
+use Rattle.std.proofs.Common.{take, Some, refl, sym, subst, ◌∙◌, length-append, arith}
+use Rattle.std.proofs.lemmas.Bool.{cases_eq}
+use Rattle.std.proofs.lemmas.List.{take-append-le, take_all}
+use Rattle.std.proofs.lemmas.Option.{slice_get_within}
+use Rattle.std.specs.List.{slice_get}
+use Rattle.disk_model.specs.Logs.{Image, Outcomes}
+use Rattle.doc_engine.specs.Standing.{ShowsWith}
+use Rattle.doc_meaning.specs.History.{Base}
+use Rattle.engine_session.specs.Pending.{Acknowledges, ShowsFrom, pending_of}
+use Rattle.engine_session.proofs.Places.{get_before, get_last}
+use Rattle.frame_log.proofs.Stretches.{throughout_then, throughout_weaker}
+use Rattle.frame_log.specs.Standing.{Since}
+use Rattle.transcript.specs.Turns.{Turn, history_of}
+
+module _ (base : Base) where
+  -- the history of all turns, or it with the entry that was broken off
+  pub shows_all : (list : List Turn) (least : ℕ) (c : Image) → least ≤ length list
+      → ShowsWith (history_of base list) (pending_of list) c → ShowsFrom base list least c
+  shows_all list least c le shows = record {
+    count = length list;
+    enough = le;
+    some = omega arith;
+    shows = subst (λ (l : List Turn). ShowsWith (history_of base l) (pending_of l) c)
+        (sym (take_all (length list) list (omega arith))) shows;
+  }
+
+  -- the same with one turn more
+  pub shows_more : (list : List Turn) (turn : Turn) (least : ℕ) (c : Image) → ShowsFrom base list least c
+      → ShowsFrom base (list ++ turn ∷ []) least c
+  shows_more list turn least c from = record {
+    count = from.count;
+    enough = from.enough;
+    some = omega (arith, from.some, length-append list (turn ∷ []));
+    shows = subst (λ (l : List Turn). ShowsWith (history_of base l) (pending_of l) c)
+        (sym (take-append-le from.count list (turn ∷ []) from.some)) from.shows;
+  }
+
+  -- from fewer turns on
+  pub shows_fewer : (list : List Turn) (least fewer : ℕ) (c : Image) → fewer ≤ least → ShowsFrom base list least c
+      → ShowsFrom base list fewer c
+  shows_fewer list least fewer c le from = record {
+    count = from.count;
+    enough = omega (arith, le, from.enough);
+    some = from.some;
+    shows = from.shows;
+  }
+
+some_is : {A : Type 0} {a b : A} → Some a ≡ Some b → a ≡ b
+some_is same = cc
+
+only_one : {A : Type 0} (x : A) (k : ℕ) (y : A) → slice_get (x ∷ []) k ≡ Some y → (k ≡ 0) × (y ≡ x)
+only_one x zero y is = (refl, sym (some_is is))
+only_one x (suc k) y is = absurd (cc)
+
+module _ {D : Type 0} (may_leave : D → Outcomes) (moment : D → ℕ) (left_since : D → ℕ → Outcomes)
+    (only : (disk : D) (c : Image) → left_since disk (moment disk) c → may_leave disk c) (base : Base) where
+  -- each image of a state shows the history of these turns, or it with the entry that was broken off
+  abbrev pub AreShown : List Turn → D → Type 0
+  AreShown list state = (c : Image) → may_leave state c → ShowsWith (history_of base list) (pending_of list) c
+
+  -- before the first turn
+  pub acknowledges_none : (disk : D) → AreShown [] disk → Acknowledges may_leave moment left_since base [] disk disk
+  acknowledges_none disk shown = record {
+    states = disk ∷ [];
+    each = refl;
+    first = refl;
+    last = refl;
+    past = λ k state is. subst (λ s. moment s ≤ moment disk) (sym (only_one disk k state is).1) (omega arith);
+    shows = λ k state c is may.
+        let (zeroth, same) = only_one disk k state is in
+        subst (λ n. ShowsWith (history_of base (take n [])) (pending_of (take n [])) c) (sym zeroth)
+        (shown c (subst (λ s. may_leave s c) same may));
+    left = λ k state c is left.
+        let (zeroth, same) = only_one disk k state is in
+        shows_all base [] k c (omega (arith, zeroth))
+        (shown c (only disk c (subst (λ s. left_since disk (moment s) c) same left)));
+  }
+
+  -- at each moment up to the end of one turn more
+  pub since_more : (list : List Turn) (turn : Turn) (old middle new : D)
+      → Since moment left_since old middle (ShowsFrom base list 0)
+      → Since moment left_since middle new (ShowsFrom base (list ++ turn ∷ []) (length list))
+      → Since moment left_since old new (ShowsFrom base (list ++ turn ∷ []) 0)
+  since_more list turn old middle new before since =
+      throughout_then _ _ _ _ _ _ _
+      (throughout_weaker _ _ _ _ _ _ before (λ c shows. shows_more base list turn 0 c shows))
+      (throughout_weaker _ _ _ _ _ _ since
+      (λ c shows. shows_fewer base (list ++ turn ∷ []) (length list) 0 c (omega arith) shows))
+
+  module _ (list : List Turn) (turn : Turn) (old middle new : D)
+      (before : Acknowledges may_leave moment left_since base list old middle)
+      (since : Since moment left_since middle new (ShowsFrom base (list ++ turn ∷ []) (length list)))
+      (now : AreShown (list ++ turn ∷ []) new) where
+    states : List D
+    states = before.states ++ new ∷ []
+
+    last_at : slice_get states (length before.states) ≡ Some new
+    unfolding states
+    last_at = get_last before.states new
+
+    -- a state before, or the one behind the turn
+    which : (k : ℕ) (state : D) → slice_get states k ≡ Some state
+        → ((k < length before.states) × (slice_get before.states k ≡ Some state))
+        ⊎ ((k ≡ length before.states) × (state ≡ new))
+    unfolding states
+    which k state is =
+        let within = slice_get_within (before.states ++ new ∷ []) k state is in
+        let total = length-append before.states (new ∷ []) in
+        ⊎_elim
+        (λ same. inr (same, sym (some_is (sym last_at ∙ subst (λ n. slice_get states n ≡ Some state) same is))))
+        (λ apart.
+        let lt : k < length before.states = omega (arith, within, total, apart) in
+        inl (lt, sym (get_before before.states new k lt) ∙ is))
+        (cases_eq k (length before.states))
+
+    -- what the images of a state show
+    shown_at : (k : ℕ) (state : D) (c : Image) → slice_get states k ≡ Some state → may_leave state c
+        → ShowsWith (history_of base (take k (list ++ turn ∷ []))) (pending_of (take k (list ++ turn ∷ []))) c
+    shown_at k state c is may = ⊎_elim
+        (λ early. subst (λ (l : List Turn). ShowsWith (history_of base l) (pending_of l) c)
+        (sym (take-append-le k list (turn ∷ []) (omega (arith, early.0, before.each))))
+        (before.shows k state c early.1 may))
+        (λ late. subst (λ (l : List Turn). ShowsWith (history_of base l) (pending_of l) c)
+        (sym (take_all k (list ++ turn ∷ [])
+        (omega (arith, late.0, before.each, length-append list (turn ∷ [])))))
+        (now c (subst (λ s. may_leave s c) late.1 may)))
+        (which k state is)
+
+    -- what a crash leaves since a state
+    left_at : (k : ℕ) (state : D) (c : Image) → slice_get states k ≡ Some state → left_since new (moment state) c
+        → ShowsFrom base (list ++ turn ∷ []) k c
+    left_at k state c is left = ⊎_elim
+        (λ early. ⊎_elim
+        (λ then. shows_more base list turn k c (before.left k state c early.1 then))
+        (λ shows. shows_fewer base (list ++ turn ∷ []) (length list) k c
+        (omega (arith, early.0, before.each)) shows)
+        (since.earlier (moment state) c (before.past k state early.1) left))
+        (λ late. shows_all base (list ++ turn ∷ []) k c
+        (omega (arith, late.0, before.each, length-append list (turn ∷ [])))
+        (now c (only new c (subst (λ s. left_since new (moment s) c) late.1 left))))
+        (which k state is)
+
+    pub acknowledges_more : Acknowledges may_leave moment left_since base (list ++ turn ∷ []) old new
+    unfolding states
+    acknowledges_more = record {
+      states = states;
+      each = omega (arith, before.each, length-append before.states (new ∷ []), length-append list (turn ∷ []));
+      first = get_before before.states new 0 (omega (arith, before.each)) ∙ before.first;
+      last = subst (λ n. slice_get states n ≡ Some new)
+          (omega (arith, before.each, length-append list (turn ∷ []))) last_at;
+      past = λ k state is. ⊎_elim
+          (λ early. omega (arith, before.past k state early.1, since.later))
+          (λ late. subst (λ s. moment s ≤ moment new) (sym late.1) (omega arith))
+          (which k state is);
+      shows = shown_at;
+      left = left_at;
+    }

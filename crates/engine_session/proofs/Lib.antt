@@ -1,0 +1,12 @@
+pub mod Places
+pub mod Turning
+pub mod Crashing
+pub mod Taking
+pub mod Saying
+pub mod Committing
+pub mod Wording
+pub mod Using
+pub mod Staying
+pub mod Ending
+pub mod Attending
+pub mod Calling

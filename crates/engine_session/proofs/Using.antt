@@ -1,0 +1,225 @@
+-- The lines of a session, and the turns that they use.
+use Rattle.std.proofs.Common.{◌≡◌, ◌≢◌, ◌+◌, inl, inr, ℕ, List, [], ◌∷◌, ◌++◌, refl, sym, ◌∙◌, ap}
+use Rattle.std.proofs.Common.{subst, append-nil, append_assoc, Option, Some, None}
+use Rattle.std.specs.List.{flat_map}
+use Rattle.client_run.specs.Sessions as s
+use Rattle.client_run.specs.Sessions.{Exchange}
+use Rattle.disk_model.specs.Logs.{Image}
+use Rattle.disk_model.specs.declared.disk.Disk
+use Rattle.disk_model.specs.declared.yard.Build
+use Rattle.disk_model.specs.declared.yard.SealedFile
+use Rattle.disk_model.specs.declared.yard.Yard
+use Rattle.doc_engine.specs.Held.{held_of}
+use Rattle.doc_engine.specs.declared.engine.Engine.{Engine}
+use Rattle.doc_meaning.specs.History.{Base}
+use Rattle.doc_meaning.specs.Replies.{look_reply}
+use Rattle.doc_model.specs.Operations.{AreOps}
+use Rattle.doc_model.specs.declared.op.Op.{Op}
+use Rattle.doc_model.specs.declared.query.Query.{Query}
+use Rattle.engine_session.proofs.Committing.{commit_turn, goes_commit}
+use Rattle.engine_session.proofs.Saying.{answer_of, said_is}
+use Rattle.engine_session.proofs.Taking.{Goes, goes_same}
+use Rattle.engine_session.proofs.Turning.{pending_stays, turn_of}
+use Rattle.engine_session.proofs.Wording.{found_word}
+use Rattle.engine_session.specs.Step.{Step}
+use Rattle.transcript.proofs.OwnTurnLemmas.{visits-append}
+use Rattle.transcript.specs.Answers as a
+use Rattle.transcript.specs.Commands.{Asks, word_query}
+use Rattle.transcript.specs.Lines.{Line, content}
+use Rattle.transcript.specs.OwnTurns.{TurnAt, turns_behind}
+use Rattle.transcript.specs.Transcript as t
+use Rattle.transcript.specs.Transcript.{Served, SessionState}
+use Rattle.transcript.specs.Turns.{Turn, history_of, look, looks}
+use Rattle.transcript.specs.declared.command.Command.{Command}
+use Rattle.transcript.specs.declared.command.Command.TheVariants as command
+use Rattle.transcript.specs.declared.command.When.TheVariants as when
+use Rattle.transcript.specs.declared.reply.Reply.{Reply}
+use Rattle.transcript.specs.declared.reply.Reply.TheVariants as reply
+
+-- no pin, a port that doesn't fail, and so many bytes that may have been read
+abbrev pub state : ℕ → SessionState
+state reads = record { pin = None; faults_left = 0; reads = reads }
+
+module _ {D Y F B : Type 0} {of_disk : Disk.Ghosts D} {of_yard : Yard.Ghosts Y F B} {of_file : SealedFile.Ghosts F}
+    {of_build : Build.Ghosts B F}
+    (only : (disk : D) (c : Image) → of_disk.left_since disk (of_disk.moment disk) c → of_disk.may_leave disk c)
+    (first : Engine D Y F B of_disk of_yard of_file of_build) (base : Base) (longest : ℕ) where
+  -- how a line is answered, from what its command is
+  abbrev pub Lines : ℕ → List ℕ → Command → Type 0
+  Lines n line asked = (used : List TurnAt) (other : Reply) (m : ℕ)
+      → t.Answers base (state n) asked used other (state m)
+      → t.AnswersLine base (state n) line used (Some other) (state m)
+
+  -- a line was served: the turns that it used come behind those before
+  pub record Served1 (new : Engine D Y F B of_disk of_yard of_file of_build) (list : List Turn) (n : ℕ) (line : List ℕ)
+      (answer : Option Reply) : Type 0 where
+    pub more : List Turn
+    pub reads : ℕ
+    pub goes : Goes only first base longest new (list ++ more)
+    pub answers : t.AnswersLine base (state n) line (turns_behind 0 list more) answer (state reads)
+
+  -- without a turn
+  none_used : (new old : Engine D Y F B of_disk of_yard of_file of_build) (list : List Turn) (n : ℕ) (line : List ℕ)
+      (answer : Option Reply) → Goes only first base longest old list → new ≡ old
+      → t.AnswersLine base (state n) line [] answer (state n) → Served1 new list n line answer
+  none_used new old list n line answer goes same answers = record {
+    more = [];
+    reads = n;
+    goes = subst (λ (e : Engine D Y F B of_disk of_yard of_file of_build). Goes only first base longest e (list ++ []))
+        (sym same) (subst (λ (g : List Turn). Goes only first base longest old g) (sym (append-nil list)) goes);
+    answers = answers;
+  }
+
+  module _ (old new : Engine D Y F B of_disk of_yard of_file of_build) (list : List Turn) (n : ℕ) (line : List ℕ)
+      (goes : Goes only first base longest old list) where
+    -- a commit
+    commit_line : (ops : List Op) (answer : Reply) → AreOps ops → Step old (command.Commit ops) answer new
+        → Lines n line (command.Commit ops) → Served1 new list n line (Some answer)
+    commit_line ops answer asked (result, says, has) lines =
+        let turn = commit_turn only first base longest old new ops asked list goes result in
+        record {
+          more = turn ∷ [];
+          reads = n;
+          goes = goes_commit only first base longest old new ops asked list goes result has;
+          answers = lines (turns_behind 0 list (turn ∷ [])) answer n (
+            answer_of result,
+            (record { before = list; turn = turn }, refl, refl, refl),
+            ap Some says ∙ said_is result,
+            refl,
+          );
+        }
+
+    look_turn : Turn
+    look_turn = turn_of look (looks (look_reply (history_of base list))) (held_of old).down
+
+    look_goes : Goes only first base longest old (list ++ look_turn ∷ [])
+    unfolding look_turn
+    look_goes = goes_same only first base longest old list look_turn goes refl
+        (record { asked = tt; of_job = tt; answers = inr refl; is_down = goes.takes.down }) refl goes.takes.down
+        (pending_stays list look (looks (look_reply (history_of base list))) (held_of old).down goes.takes.down
+        (λ n. refl))
+
+    -- a search for a word
+    search_line : (word : List ℕ) (answer : Reply) → Step old (command.Search (word_query word) when.Front) answer new
+        → Lines n line (command.Search (word_query word) when.Front)
+        → Asks line (command.Search (word_query word) when.Front)
+        → t.AnswersLine base (state n) line [] (Some reply.Memory) (state n)
+        → Served1 new list n line (Some answer)
+    unfolding look_turn
+    search_line word answer (inl says, same) lines asks lacks =
+        let h = history_of base list in
+        let asked = command.Search (word_query word) when.Front in
+        let is = goes.takes.is_at in
+        record {
+          more = look_turn ∷ [];
+          reads = n + a.reads_of asked h;
+          goes = subst (λ (e : Engine D Y F B of_disk of_yard of_file of_build).
+              Goes only first base longest e (list ++ look_turn ∷ [])) (sym same) look_goes;
+          answers = lines (turns_behind 0 list (look_turn ∷ [])) answer (n + a.reads_of asked h) (
+            h,
+            (record { before = list; turn = look_turn }, refl, refl, refl, refl),
+            (says ∙ (rw (is.front, is.documents) (sym (found_word h word goes.ordered))), refl),
+          );
+        }
+    search_line word answer (inr wants, same) lines asks lacks =
+        none_used new old list n line (Some answer) goes same
+        (subst (λ (r : Reply). t.AnswersLine base (state n) line [] (Some r) (state n)) (sym wants) lacks)
+
+  -- what a command of a line uses, by its step
+  command_line : (old new : Engine D Y F B of_disk of_yard of_file of_build) (list : List Turn) (n : ℕ) (line : List ℕ)
+      (asked : Command) (answer : Reply) → Goes only first base longest old list → Asks line asked
+      → asked ≢ command.Quit → Step old asked answer new → Lines n line asked
+      → t.AnswersLine base (state n) line [] (Some reply.Memory) (state n)
+      → Served1 new list n line (Some answer)
+  command_line old new list n line (command.Commit ops) answer goes (uri, members, is, one, fit) differs step lines
+      lacks =
+      commit_line old new list n line goes ops answer fit step lines
+  command_line old new list n line (command.Search q when.Front) answer goes (word, is, one) differs step lines lacks =
+      search_line old new list n line goes word answer
+      (subst (λ (w : Query). Step old (command.Search w when.Front) answer new) one step)
+      (subst (λ (w : Query). Lines n line (command.Search w when.Front)) one lines) (word, is, refl) lacks
+  command_line old new list n line command.Quit answer goes asks differs step lines lacks = absurd (differs refl)
+  command_line old new list n line (command.Search q (when.At at)) answer goes asks differs step lines lacks =
+      absurd asks
+  command_line old new list n line (command.Search q when.Pinned) answer goes asks differs step lines lacks =
+      absurd asks
+  command_line old new list n line (command.Get uri when) answer goes asks differs step lines lacks = absurd asks
+  command_line old new list n line (command.Estimate q when) answer goes asks differs step lines lacks = absurd asks
+  command_line old new list n line command.Stamp answer goes asks differs step lines lacks = absurd asks
+  command_line old new list n line (command.Forget to) answer goes asks differs step lines lacks = absurd asks
+  command_line old new list n line command.Pin answer goes asks differs step lines lacks = absurd asks
+  command_line old new list n line command.Unpin answer goes asks differs step lines lacks = absurd asks
+  command_line old new list n line command.Save answer goes asks differs step lines lacks = absurd asks
+  command_line old new list n line command.Merge answer goes asks differs step lines lacks = absurd asks
+  command_line old new list n line command.Revive answer goes asks differs step lines lacks = absurd asks
+
+  -- a service that answers as the engine does that is in it
+  module _ {S : Type 0} (answers : s.Relation S) (engine_of : S → Engine D Y F B of_disk of_yard of_file of_build)
+      (steps : (old : S) (asked : Command) (said : Reply) (new : S) → answers old asked said new
+      → Step (engine_of old) asked said (engine_of new)) where
+    -- one line of the session uses what its command uses
+    serves_line : (old new : S) (list : List Turn) (n : ℕ) (line : List ℕ) (answer : Option Reply)
+        → Goes only first base longest (engine_of old) list → s.AnswersLine answers old line answer new
+        → Served1 (engine_of new) list n line answer
+    serves_line old new list n [] answer goes (none, same) =
+        none_used (engine_of new) (engine_of old) list n [] answer goes (ap engine_of same) (refl, none, refl)
+    serves_line old new list n (b ∷ line) None goes never = absurd never
+    serves_line old new list n (b ∷ line) (Some answer) goes (inl (asked, asks, differs, step)) =
+        command_line (engine_of old) (engine_of new) list n (b ∷ line) asked answer goes asks differs
+        (steps old asked answer new step) (λ used other m says. inl (asked, asks, inl says))
+        (inr (inr (refl, inl (refl, refl))))
+    serves_line old new list n (b ∷ line) (Some answer) goes (inr (inl (quits, bye, same))) =
+        none_used (engine_of new) (engine_of old) list n (b ∷ line) (Some answer) goes (ap engine_of same)
+        (inl (command.Quit, quits, inl (refl, bye, refl)))
+    serves_line old new list n (b ∷ line) (Some answer) goes (inr (inr (inl (nothing, later, same)))) =
+        none_used (engine_of new) (engine_of old) list n (b ∷ line) (Some answer) goes (ap engine_of same)
+        (inr (inl (inr (nothing, later), refl, refl)))
+    serves_line old new list n (b ∷ line) (Some answer) goes (inr (inr (inr (lacks, same)))) =
+        none_used (engine_of new) (engine_of old) list n (b ∷ line) (Some answer) goes (ap engine_of same)
+        (inr (inr (lacks, inl (refl, refl))))
+
+    -- the lines of a session, in turn
+    pub record ServedAll (new : S) (list : List Turn) (n : ℕ) (exchanges : List Exchange) : Type 0 where
+      pub more : List Turn
+      pub served : List Served
+      pub reads : ℕ
+      pub goes : Goes only first base longest (engine_of new) (list ++ more)
+      pub answered : t.AnswersLines base (state n) served (state reads)
+      pub used : turns_behind 0 list more ≡ flat_map (λ s. s.used) served
+      pub lines : t.lines_of served ≡ s.lines_of exchanges
+      pub texts : t.texts_of served ≡ s.texts_of exchanges
+
+    pub serves_lines : (old new : S) (list : List Turn) (n : ℕ) (exchanges : List Exchange)
+        → Goes only first base longest (engine_of old) list → s.AnswersLines answers old exchanges new
+        → ServedAll new list n exchanges
+    serves_lines old new list n [] goes same = record {
+      more = [];
+      served = [];
+      reads = n;
+      goes = subst (λ (e : S). Goes only first base longest (engine_of e) (list ++ [])) (sym same)
+          (subst (λ (g : List Turn). Goes only first base longest (engine_of old) g) (sym (append-nil list)) goes);
+      answered = refl;
+      used = refl;
+      lines = refl;
+      texts = refl;
+    }
+    serves_lines old new list n (exchange ∷ others) goes (mid, here, behind) =
+        let one = serves_line old mid list n (content exchange.line) exchange.answer goes here in
+        let rest = serves_lines mid new (list ++ one.more) one.reads others one.goes behind in
+        let served : Served = record {
+          line = exchange.line;
+          used = turns_behind 0 list one.more;
+          answer = exchange.answer;
+        } in
+        record {
+          more = one.more ++ rest.more;
+          served = served ∷ rest.served;
+          reads = rest.reads;
+          goes = subst (λ (g : List Turn). Goes only first base longest (engine_of new) g)
+              (append_assoc list one.more rest.more) rest.goes;
+          answered = (state one.reads, one.answers, rest.answered);
+          used = visits-append 0 list one.more rest.more
+              ∙ ap (λ (vs : List TurnAt). turns_behind 0 list one.more ++ vs) rest.used;
+          lines = ap (λ (ls : List Line). exchange.line ∷ ls) rest.lines;
+          texts = ap (λ (texts : List (List ℕ)). t.text_of_answer exchange.answer ∷ texts) rest.texts;
+        }

@@ -1,0 +1,4 @@
+pub mod Pending
+pub mod Step
+pub mod Attended
+pub mod Ended
