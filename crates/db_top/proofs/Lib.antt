@@ -1,3 +1,7 @@
-pub mod Agreeing
-pub mod Entering
-pub mod Running
+pub mod Attending
+pub mod Keeping
+pub mod Lending
+pub mod Made
+pub mod Printing
+pub mod Used
+pub mod Widening

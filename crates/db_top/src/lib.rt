@@ -1,11 +1,14 @@
 //! The top call.
 #![tactic(auto)]
 
-mod live;
+mod making;
 mod program;
+mod reporting;
+mod serving;
 mod status;
 #[cfg(test)]
 mod tests;
+mod words;
 
 pub use program::run;
 pub use status::Status;
