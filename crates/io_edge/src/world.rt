@@ -20,7 +20,8 @@ struct Seat<R: Read + Send + Drop, W: Write + Send + Drop> {
     back: Option<Client<Reading<R>, Writing<W>, MemoryPort>>,
 }
 
-/// One client over a reader and a writer, and a writer to print to. Its stores are in memory so far.
+/// One client over a reader and a writer, and a writer to print to. Its stores and ports are those of a world in memory
+/// so far.
 #[derive(Drop)]
 pub struct StreamWorld<R: Read + Send + Drop, W: Write + Send + Drop> {
     waiting: Option<Client<Reading<R>, Writing<W>, MemoryPort>>,

@@ -11,15 +11,17 @@ use crate::streams::{Reading, Writing};
 use disk_memory::{MemoryDisk, MemoryPort, MemoryStore, MemoryWorld, MemoryYard, Plan};
 use disk_model::{Client, Failed, World};
 use std::alloc::Global;
-use std::collections::VecDeque;
 use std::io::{Read, Write};
 use std::snapshot::Snapshot;
 
 impl<R: Read + Send + Drop, W: Write + Send + Drop> StreamWorld<R, W> {
-    /// Nothing was handed out yet.
-    pub fn new(alloc: Global, reader: R, writer: W, printer: W) -> Self
+    /// A client that wasn't handed out yet, and the stores of this world.
+    pub fn new(alloc: Global, reader: R, writer: W, printer: W, stores: MemoryWorld) -> Self
         ensures clients { ⟦<StreamWorld<R, W> as World>⟧.clients result ≡ none_handed }
-        ensures stores { ⟦<StreamWorld<R, W> as World>⟧.stores result ≡ none_handed }
+        ensures stores { ⟦<StreamWorld<R, W> as World>⟧.stores result ≡ ⟦<MemoryWorld as World>⟧.stores stores }
+        ensures directories { ⟦<StreamWorld<R, W> as World>⟧.directories result
+            ≡ ⟦<MemoryWorld as World>⟧.directories stores }
+        ensures stands { ⟦<StreamWorld<R, W> as World>⟧.stands result ≡ ⟦<MemoryWorld as World>⟧.stands stores }
         ensures faults { ⟦<StreamWorld<R, W> as World>⟧.faults result ≡ 0 }
     {
         StreamWorld {
@@ -30,7 +32,7 @@ impl<R: Read + Send + Drop, W: Write + Send + Drop> StreamWorld<R, W> {
             }),
             seats: Vec::new(alloc),
             returned: 0,
-            stores: MemoryWorld::new(alloc, VecDeque::new(alloc), no_plan(alloc)),
+            stores,
             printer,
             count: Count { faults: 0 },
         }
