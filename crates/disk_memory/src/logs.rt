@@ -6,12 +6,9 @@ ghost use Rattle.disk_model.specs.declared.disk.TheConstants.{LOG_COUNT};
 ghost use Rattle.disk_memory.specs.Held.{read_of, AreSure, MayLeave, ReadBecomes, Steps};
 
 use crate::log::MemoryLog;
-use disk_model::LOG_COUNT;
+use disk_model::{LOG_COUNT, LONGEST_LOG};
 use std::alloc::{AllocError, Global};
 use std::snapshot::Snapshot;
-
-// How long a log may be.
-const LONGEST: u64 = 1 << 62;
 
 /// The logs, and what they were before each change, which has no bytes: it is for clauses alone.
 #[derive(Drop)]
@@ -108,7 +105,7 @@ fn sure_logs(alloc: Global, contents: Vec<Vec<u8>>) -> Result<Vec<MemoryLog>, Al
 {
     let mut logs = Vec::new(alloc);
     'logs: for content in contents {
-        if content.len() as u64 > LONGEST {
+        if content.len() as u64 > LONGEST_LOG {
             return Err(AllocError);
         }
         logs.push(MemoryLog::new(alloc, content))?;

@@ -10,6 +10,9 @@ use crate::failed::Failed;
 /// How many logs a disk has.
 pub const LOG_COUNT: u8 = 4;
 
+/// How many bytes a log has at the most.
+pub const LONGEST_LOG: u64 = 1 << 62;
+
 /// The logs of a database, by number, under one clock. A call on one leaves what a crash may leave of the others.
 ///
 /// Between two syncs of a log each written range, and all past its old end, may hold any bytes after a crash, and a

@@ -11,7 +11,7 @@ mod streams;
 mod world;
 mod yard;
 
-pub use disk::{Disk, LOG_COUNT};
+pub use disk::{Disk, LOG_COUNT, LONGEST_LOG};
 pub use failed::Failed;
 pub use file_name::FileName;
 pub use laws::{other_bytes_stay, other_logs_stay_settled, since_adds_up};

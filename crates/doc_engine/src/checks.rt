@@ -3,17 +3,12 @@ ghost use Rattle.std.specs.Prelude.{◌≡◌, OnOk, IfOk, IfErr};
 
 use crate::engine::Engine;
 use crate::refusal::CommitRefusal;
-use disk_model::{Disk, Yard};
+use disk_model::{Disk, LONGEST_LOG, Yard};
+use doc_meaning::LAST_TIMESTAMP;
 use doc_model::Ops;
 use frame_log::Frame;
 use journal_bodies::commit_body;
 use live_documents::first_twice;
-
-// The last timestamp, 2^48-1.
-pub(crate) const LAST_TIMESTAMP: u64 = 281_474_976_710_655;
-
-// Where a log is at its longest.
-const LONGEST: u64 = 1 << 62;
 
 impl<D: Disk, Y: Yard> Engine<D, Y> {
     ghost use Rattle.doc_engine.specs.Checks.{HasNoRoom, HasRoom, MayEnter, MayNotEnter};
@@ -51,7 +46,7 @@ impl<D: Disk, Y: Yard> Engine<D, Y> {
         let body = commit_body(self.alloc, number, ops)?;
         let frame = Frame::of(self.alloc, &body)?;
         let end = self.journal.end_with(&frame);
-        if end >= LONGEST || self.front >= LAST_TIMESTAMP {
+        if end >= LONGEST_LOG || self.front >= LAST_TIMESTAMP {
             return Err(CommitRefusal::Spent {
                 front: self.front,
                 end,

@@ -7,6 +7,7 @@ mod laws;
 mod meaning;
 mod replies;
 mod string_node;
+mod timestamp;
 mod version;
 
 pub use bounds::Bounds;
@@ -19,4 +20,5 @@ pub use laws::{
 pub use meaning::Meaning;
 pub use replies::{CommitReply, ForgetReply, LookReply, ReadReply};
 pub use string_node::StringNode;
+pub use timestamp::LAST_TIMESTAMP;
 pub use version::Version;

@@ -6,10 +6,7 @@ use crate::device::{keep, put};
 use crate::frame::{CLOSED, Frame, OPEN};
 use crate::refusal::LogRefusal;
 use crate::state::State;
-use disk_model::{Disk, Failed};
-
-/// How long a log may be.
-const LONGEST: u64 = 1 << 62;
+use disk_model::{Disk, Failed, LONGEST_LOG};
 
 /// A log of frames: which of the disk's it is, and where its last gate stands.
 #[derive(Debug, Drop)]
@@ -96,7 +93,7 @@ impl Log {
         if self.is_down() {
             return Err(LogRefusal::Down);
         }
-        if end >= LONGEST {
+        if end >= LONGEST_LOG {
             return Err(LogRefusal::Long { end: self.end });
         }
         Ok(())

@@ -6,11 +6,9 @@ ghost use Rattle.doc_model.specs.Tree.{is_among};
 ghost use Rattle.doc_meaning.specs.Replies.{first_twice, live_stamp, differs, is_spent};
 
 use crate::{Database, History};
-use doc_meaning::CommitReply;
+use doc_meaning::{CommitReply, LAST_TIMESTAMP};
 use doc_model::{Op, Ops, Text};
 use std::alloc::{AllocError, Global};
-
-const LAST_TIMESTAMP: u64 = 281_474_976_710_655;
 
 impl History {
     ghost use Rattle.doc_meaning.specs.Replies.{commit_reply};

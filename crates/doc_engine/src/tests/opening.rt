@@ -1,8 +1,8 @@
 // Directories of any timestamps are opened.
 use super::{MemoryEngine, one, opened, plain_settings, smooth};
 use crate::CommitRefusal;
-use crate::checks::LAST_TIMESTAMP;
 use disk_memory::{MemoryDisk, blank_logs};
+use doc_meaning::LAST_TIMESTAMP;
 use frame_log::{Frame, Log};
 use journal_bodies::{Root, root_body};
 use sqlite_items::Items;
