@@ -101,9 +101,9 @@ module _ {D : Type 0} (seen : D → Option Image) (may_leave : D → Outcomes) (
         }
 
     -- and the journal that they make stands
-    pub blank_stands : (journal : Journal) → Holds seen may_leave journal.zero third []
-        → Holds seen may_leave journal.one last [] → IsUp journal.two → IsUp journal.three → journal.two.end ≡ 0
-        → journal.three.end ≡ 0 → StandsWith seen may_leave journal last no_bodies no_bodies
+    pub blank_stands : (journal : Journal) → Holds seen may_leave journal.journal_0 third []
+        → Holds seen may_leave journal.journal_1 last [] → IsUp journal.root_0 → IsUp journal.root_1 → journal.root_0.end ≡ 0
+        → journal.root_1.end ≡ 0 → StandsWith seen may_leave journal last no_bodies no_bodies
     blank_stands journal zero one_holds up_two up_three empty_two empty_three =
         let file_zero = journal.first_journal in
         let file_two = journal.first_roots in
@@ -111,13 +111,13 @@ module _ {D : Type 0} (seen : D → Option Image) (may_leave : D → Outcomes) (
         let bare_last = bare_at_last third last one_blank in
         record {
           each = each_of_four (λ n. Stands seen may_leave (log_of journal n) last [] [])
-              (other_stands seen may_leave moment left_since 1 journal.zero third last (λ e. omega (
+              (other_stands seen may_leave moment left_since 1 journal.journal_0 third last (λ e. omega (
                 arith,
                 e,
                 file_zero,
               ))
               blank_1 [] [] (counts last) zero.stands)
               one_holds.stands
-              (root_stands journal.two up_two empty_two (λ c left. rw file_two (bare_last c left).0))
-              (root_stands journal.three up_three empty_three (λ c left. rw file_three (bare_last c left).1));
+              (root_stands journal.root_0 up_two empty_two (λ c left. rw file_two (bare_last c left).0))
+              (root_stands journal.root_1 up_three empty_three (λ c left. rw file_three (bare_last c left).1));
         }

@@ -137,8 +137,8 @@ module _ {D : Type 0} (seen : D → Option Image) (may_leave : D → Outcomes) (
 
   -- the first root goes to log 2
   first_file : (journal : Journal) (file : ℕ) → IsEmptyJournal journal → root_log_of journal file → file ≡ 2
-  first_file journal file empty takes = ⊎_elim (λ (two : (file ≡ 2) × IsEmpty journal.two). two.0)
-      (λ (three : (file ≡ 3) × (IsEmpty journal.two → ⊥) × IsEmpty journal.three). absurd (three.1 empty.root_0)) takes
+  first_file journal file empty takes = ⊎_elim (λ (two : (file ≡ 2) × IsEmpty journal.root_0). two.0)
+      (λ (three : (file ≡ 3) × (IsEmpty journal.root_0 → ⊥) × IsEmpty journal.root_1). absurd (three.1 empty.root_0)) takes
 
   pub first_appended : {T : Type 0} (faults : D → ℕ) (body : List ℕ) (journal after : Journal) (mid new : D)
       (result : Result T LogRefusal) → IsEmptyJournal journal
@@ -179,15 +179,15 @@ module _ {D : Type 0} (seen : D → Option Image) (may_leave : D → Outcomes) (
       → Made seen may_leave settings new after
   made faults body journal after mid new v spelled empty stands appends =
       let current = appends.others.current ∙ empty.current in
-      let one : after.one ≡ journal.one = appends.others.others 1 (omega arith) (λ e. omega (arith, e)) in
-      let three : after.three ≡ journal.three = appends.others.others 3 (omega arith) (λ e. omega (arith, e)) in
+      let one : after.journal_1 ≡ journal.journal_1 = appends.others.others 1 (omega arith) (λ e. omega (arith, e)) in
+      let three : after.root_1 ≡ journal.root_1 = appends.others.others 3 (omega arith) (λ e. omega (arith, e)) in
       record {
         body = body;
         first = spelled;
         up = made_up faults body journal after mid new v empty appends;
         stands = (appends.frames no_bodies stands (empty.up 2 (omega arith))).now;
         current = current;
-        owes = none_owed (has_frames after.two) (not after.frozen) (has_frames after.three) (has_frames (other_log
+        owes = none_owed (has_frames after.root_0) (not after.frozen) (has_frames after.root_1) (has_frames (other_log
             after))
             (rw (three, empty.root_1) refl) (subst (λ n. has_frames (log_of after (1 - n)) ≡ false) (sym current)
             (rw (one, empty.journal_1) refl));

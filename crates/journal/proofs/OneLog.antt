@@ -150,15 +150,15 @@ module _ {D : Type 0} (seen : D → Option Image) (may_leave : D → Outcomes) (
 
 -- journals that differ at one log alone
 
-zero_alone : (old new : Journal) → new.one ≡ old.one → new.two ≡ old.two → new.three ≡ old.three → (k : ℕ) → k <
+zero_alone : (old new : Journal) → new.journal_1 ≡ old.journal_1 → new.root_0 ≡ old.root_0 → new.root_1 ≡ old.root_1 → (k : ℕ) → k <
     LOG_COUNT → k ≢ 0 → log_of new k ≡ log_of old k
 zero_alone old new one two three zero lt apart = absurd (apart refl)
 zero_alone old new one two three (suc zero) lt apart = one
 zero_alone old new one two three (suc (suc zero)) lt apart = two
 zero_alone old new one two three (suc (suc (suc k))) lt apart = three
 
-pub only_zero : (old new : Journal) → new.current ≡ old.current → new.frozen ≡ old.frozen → new.one ≡ old.one →
-    new.two ≡ old.two → new.three ≡ old.three → OnlyLog 0 old new
+pub only_zero : (old new : Journal) → new.current ≡ old.current → new.frozen ≡ old.frozen → new.journal_1 ≡ old.journal_1 →
+    new.root_0 ≡ old.root_0 → new.root_1 ≡ old.root_1 → OnlyLog 0 old new
 only_zero old new current frozen one two three = record {
   current = current;
   frozen = frozen;
@@ -166,15 +166,15 @@ only_zero old new current frozen one two three = record {
       new one two three;
 }
 
-one_alone : (old new : Journal) → new.zero ≡ old.zero → new.two ≡ old.two → new.three ≡ old.three → (k : ℕ) → k <
+one_alone : (old new : Journal) → new.journal_0 ≡ old.journal_0 → new.root_0 ≡ old.root_0 → new.root_1 ≡ old.root_1 → (k : ℕ) → k <
     LOG_COUNT → k ≢ 1 → log_of new k ≡ log_of old k
 one_alone old new first two three zero lt apart = first
 one_alone old new first two three (suc zero) lt apart = absurd (apart refl)
 one_alone old new first two three (suc (suc zero)) lt apart = two
 one_alone old new first two three (suc (suc (suc k))) lt apart = three
 
-pub only_one : (old new : Journal) → new.current ≡ old.current → new.frozen ≡ old.frozen → new.zero ≡ old.zero →
-    new.two ≡ old.two → new.three ≡ old.three → OnlyLog 1 old new
+pub only_one : (old new : Journal) → new.current ≡ old.current → new.frozen ≡ old.frozen → new.journal_0 ≡ old.journal_0 →
+    new.root_0 ≡ old.root_0 → new.root_1 ≡ old.root_1 → OnlyLog 1 old new
 only_one old new current frozen first two three = record {
   current = current;
   frozen = frozen;
@@ -182,15 +182,15 @@ only_one old new current frozen first two three = record {
       new first two three;
 }
 
-two_alone : (old new : Journal) → new.zero ≡ old.zero → new.one ≡ old.one → new.three ≡ old.three → (k : ℕ) → k <
+two_alone : (old new : Journal) → new.journal_0 ≡ old.journal_0 → new.journal_1 ≡ old.journal_1 → new.root_1 ≡ old.root_1 → (k : ℕ) → k <
     LOG_COUNT → k ≢ 2 → log_of new k ≡ log_of old k
 two_alone old new first one three zero lt apart = first
 two_alone old new first one three (suc zero) lt apart = one
 two_alone old new first one three (suc (suc zero)) lt apart = absurd (apart refl)
 two_alone old new first one three (suc (suc (suc k))) lt apart = three
 
-pub only_two : (old new : Journal) → new.current ≡ old.current → new.frozen ≡ old.frozen → new.zero ≡ old.zero →
-    new.one ≡ old.one → new.three ≡ old.three → OnlyLog 2 old new
+pub only_two : (old new : Journal) → new.current ≡ old.current → new.frozen ≡ old.frozen → new.journal_0 ≡ old.journal_0 →
+    new.journal_1 ≡ old.journal_1 → new.root_1 ≡ old.root_1 → OnlyLog 2 old new
 only_two old new current frozen first one three = record {
   current = current;
   frozen = frozen;
@@ -198,15 +198,15 @@ only_two old new current frozen first one three = record {
       new first one three;
 }
 
-three_alone : (old new : Journal) → new.zero ≡ old.zero → new.one ≡ old.one → new.two ≡ old.two → (k : ℕ) → k <
+three_alone : (old new : Journal) → new.journal_0 ≡ old.journal_0 → new.journal_1 ≡ old.journal_1 → new.root_0 ≡ old.root_0 → (k : ℕ) → k <
     LOG_COUNT → k ≢ 3 → log_of new k ≡ log_of old k
 three_alone old new first one two zero lt apart = first
 three_alone old new first one two (suc zero) lt apart = one
 three_alone old new first one two (suc (suc zero)) lt apart = two
 three_alone old new first one two (suc (suc (suc k))) lt apart = absurd (apart (omega (arith, lt)))
 
-pub only_three : (old new : Journal) → new.current ≡ old.current → new.frozen ≡ old.frozen → new.zero ≡ old.zero →
-    new.one ≡ old.one → new.two ≡ old.two → OnlyLog 3 old new
+pub only_three : (old new : Journal) → new.current ≡ old.current → new.frozen ≡ old.frozen → new.journal_0 ≡ old.journal_0 →
+    new.journal_1 ≡ old.journal_1 → new.root_0 ≡ old.root_0 → OnlyLog 3 old new
 only_three old new current frozen first one two = record {
   current = current;
   frozen = frozen;

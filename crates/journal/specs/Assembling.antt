@@ -15,10 +15,10 @@ use Rattle.journal_meaning.specs.Shown.{TellsAt, without_first}
 
 -- the parts of what was read, at their places
 pub record Assembles (newest : NewestRoot) (journals : Journals) (found : ReadAll) : Type 0 where
-  pub journal_0 : found.journal.zero ≡ journals.journal_0
-  pub journal_1 : found.journal.one ≡ journals.journal_1
-  pub root_0 : found.journal.two ≡ newest.root_0
-  pub root_1 : found.journal.three ≡ newest.root_1
+  pub journal_0 : found.journal.journal_0 ≡ journals.journal_0
+  pub journal_1 : found.journal.journal_1 ≡ journals.journal_1
+  pub root_0 : found.journal.root_0 ≡ newest.root_0
+  pub root_1 : found.journal.root_1 ≡ newest.root_1
   pub current : current_of found.journal ≡ journals.replay.current
   pub is_frozen : IsTrue found.journal.frozen ↔ IsSome journals.replay.frozen
   pub root : found.scanned.root ≡ newest.root

@@ -29,9 +29,9 @@ IsRefusal Memory = ⊥
 -- no log has frames, and the first entry goes to journal 0
 pub record IsEmptyJournal (journal : Journal) : Type 0 where
   pub up : AreUp journal
-  pub journal_0 : IsEmpty journal.zero
-  pub journal_1 : IsEmpty journal.one
-  pub root_0 : IsEmpty journal.two
-  pub root_1 : IsEmpty journal.three
+  pub journal_0 : IsEmpty journal.journal_0
+  pub journal_1 : IsEmpty journal.journal_1
+  pub root_0 : IsEmpty journal.root_0
+  pub root_1 : IsEmpty journal.root_1
   pub current : current_of journal ≡ 0
   pub frozen : journal.frozen ≡ false

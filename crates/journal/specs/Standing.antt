@@ -9,10 +9,10 @@ use Rattle.journal_meaning.specs.Bodies.{Bodies}
 
 -- the log of this number
 abbrev pub log_of : Journal → ℕ → Log
-log_of journal zero = journal.zero
-log_of journal (suc zero) = journal.one
-log_of journal (suc (suc zero)) = journal.two
-log_of journal (suc (suc (suc _))) = journal.three
+log_of journal zero = journal.journal_0
+log_of journal (suc zero) = journal.journal_1
+log_of journal (suc (suc zero)) = journal.root_0
+log_of journal (suc (suc (suc _))) = journal.root_1
 
 -- which of the journals 0 and 1 takes the next entry
 abbrev pub current_of : Journal → ℕ
@@ -26,12 +26,12 @@ other_log journal = log_of journal (1 - current_of journal)
 
 -- which of the root logs 2 and 3 takes the next root: the empty one, the first if both are
 abbrev pub root_log_of : Journal → ℕ → Type 0
-root_log_of journal file = ((file ≡ 2) × IsEmpty journal.two) ⊎ ((file ≡ 3) × (IsEmpty journal.two → ⊥) × IsEmpty
-    journal.three)
+root_log_of journal file = ((file ≡ 2) × IsEmpty journal.root_0) ⊎ ((file ≡ 3) × (IsEmpty journal.root_0 → ⊥) × IsEmpty
+    journal.root_1)
 
 -- one of the root logs is empty
 abbrev pub HasEmptyRootLog : Journal → Type 0
-HasEmptyRootLog journal = IsEmpty journal.two ⊎ IsEmpty journal.three
+HasEmptyRootLog journal = IsEmpty journal.root_0 ⊎ IsEmpty journal.root_1
 
 -- whether a log has frames
 abbrev pub has_frames : Log → Bool
@@ -40,7 +40,7 @@ has_frames log = nat_lt 0 (end_of log)
 -- how many logs are to be reset: a root log where both have frames, and the journal that isn't current where it has
 -- some and none is past the checkpoint
 abbrev pub owed_of : Journal → ℕ
-owed_of journal = (if has_frames journal.two && has_frames journal.three then 1 else 0)
+owed_of journal = (if has_frames journal.root_0 && has_frames journal.root_1 then 1 else 0)
     + (if not journal.frozen && has_frames (other_log journal) then 1 else 0)
 
 -- no log is down

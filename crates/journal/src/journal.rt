@@ -7,17 +7,17 @@ use frame_log::{Frame, Log, LogRefusal};
 /// The logs of a directory: two journals, of which one takes the next entry, and two logs of roots.
 #[derive(Debug, Drop)]
 pub struct Journal {
-    pub(crate) zero: Log,
-    pub(crate) one: Log,
-    pub(crate) two: Log,
-    pub(crate) three: Log,
+    pub(crate) journal_0: Log,
+    pub(crate) journal_1: Log,
+    pub(crate) root_0: Log,
+    pub(crate) root_1: Log,
     pub(crate) current: u8,
     // Whether the other journal has entries past the checkpoint, so that it isn't to be reset.
     pub(crate) frozen: bool,
-    ghost first_journal: { zero.file ≡ 0 },
-    ghost second_journal: { one.file ≡ 1 },
-    ghost first_roots: { two.file ≡ 2 },
-    ghost second_roots: { three.file ≡ 3 },
+    ghost first_journal: { journal_0.file ≡ 0 },
+    ghost second_journal: { journal_1.file ≡ 1 },
+    ghost first_roots: { root_0.file ≡ 2 },
+    ghost second_roots: { root_1.file ≡ 3 },
     ghost is_journal: { current ≤ 1 },
 }
 
@@ -51,7 +51,7 @@ impl Journal {
             D.faults file frame.now self.old self.new disk.old disk.new result }
         ensures within { AreWithin self.new (D.seen disk.new) }
     {
-        let file = if self.two.is_empty() { 2 } else { 3 };
+        let file = if self.root_0.is_empty() { 2 } else { 3 };
         self.append_to(file, disk, frame)
     }
 
@@ -69,10 +69,10 @@ impl Journal {
         ensures within { AreWithin self.new (D.seen disk.new) }
     {
         match file {
-            0 => self.zero.append(disk, frame),
-            1 => self.one.append(disk, frame),
-            2 => self.two.append(disk, frame),
-            _ => self.three.append(disk, frame),
+            0 => self.journal_0.append(disk, frame),
+            1 => self.journal_1.append(disk, frame),
+            2 => self.root_0.append(disk, frame),
+            _ => self.root_1.append(disk, frame),
         }
     }
 
@@ -81,8 +81,8 @@ impl Journal {
         ensures { result.now ≡ current_log self.now }
     {
         match self.current {
-            0 => &self.zero,
-            _ => &self.one,
+            0 => &self.journal_0,
+            _ => &self.journal_1,
         }
     }
 
@@ -98,7 +98,7 @@ impl Journal {
     pub fn owed(&self) -> u32
         ensures { result ≡ owed_of self.now }
     {
-        let owes_root = !self.two.is_empty() && !self.three.is_empty();
+        let owes_root = !self.root_0.is_empty() && !self.root_1.is_empty();
         let owes_journal = !self.frozen && !self.other_journal().is_empty();
         u32::from(owes_root) + u32::from(owes_journal)
     }
@@ -108,8 +108,8 @@ impl Journal {
         ensures { result.now ≡ other_log self.now }
     {
         match self.current {
-            0 => &self.one,
-            _ => &self.zero,
+            0 => &self.journal_1,
+            _ => &self.journal_0,
         }
     }
 
@@ -117,7 +117,10 @@ impl Journal {
     pub fn is_down(&self) -> bool
         ensures { IsTrue result ↔ (AreUp self.now → ⊥) }
     {
-        self.zero.is_down() || self.one.is_down() || self.two.is_down() || self.three.is_down()
+        self.journal_0.is_down()
+            || self.journal_1.is_down()
+            || self.root_0.is_down()
+            || self.root_1.is_down()
     }
 
     /// Whether a fault may have opened the gate behind the last entry.

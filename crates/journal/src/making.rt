@@ -100,13 +100,13 @@ fn empty_journal<D: Disk>(disk: &mut D, root_0: Log, root_1: Log) -> Result<Jour
 {
     settle(disk, 2)?;
     settle(disk, 3)?;
-    let zero = Log::blank(disk, 0)?;
-    let one = Log::blank(disk, 1)?;
+    let journal_0 = Log::blank(disk, 0)?;
+    let journal_1 = Log::blank(disk, 1)?;
     Ok(Journal {
-        zero,
-        one,
-        two: root_0,
-        three: root_1,
+        journal_0,
+        journal_1,
+        root_0,
+        root_1,
         current: 0,
         frozen: false,
     })

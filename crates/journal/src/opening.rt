@@ -98,10 +98,10 @@ fn assemble(newest: NewestRoot, journals: Journals) -> ReadAll
     let replay = journals.replay;
     ReadAll {
         journal: Journal {
-            zero: journals.journal_0,
-            one: journals.journal_1,
-            two: newest.root_0,
-            three: newest.root_1,
+            journal_0: journals.journal_0,
+            journal_1: journals.journal_1,
+            root_0: newest.root_0,
+            root_1: newest.root_1,
             current: replay.current,
             frozen: replay.frozen.is_some(),
         },

@@ -64,10 +64,10 @@ impl Journal {
         ensures cause { HasCause (D.faults disk.old) (D.faults disk.new) result }
     {
         match file {
-            0 => self.zero.revive(disk),
-            1 => self.one.revive(disk),
-            2 => self.two.revive(disk),
-            _ => self.three.revive(disk),
+            0 => self.journal_0.revive(disk),
+            1 => self.journal_1.revive(disk),
+            2 => self.root_0.revive(disk),
+            _ => self.root_1.revive(disk),
         }
     }
 
@@ -84,6 +84,6 @@ impl Journal {
         ensures within { AreWithin self.new (D.seen disk.new) }
         ensures cause { HasCause (D.faults disk.old) (D.faults disk.new) result }
     {
-        self.zero.reset(disk)
+        self.journal_0.reset(disk)
     }
 }

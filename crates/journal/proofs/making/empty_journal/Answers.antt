@@ -4,8 +4,8 @@ use Rattle.frame_log.proofs.Changes.{told_after}
 use Rattle.journal.proofs.Blanks.{bare_images, blank_stands, if_told}
 use Rattle.journal.proofs.making.empty_journal.Goals as goal
 
-pub returns-in_err-one-clause-images : goal.returns-in_err-one-clause-images
-returns-in_err-one-clause-images g c =
+pub returns-in_err-journal_1-clause-images : goal.returns-in_err-journal_1-clause-images
+returns-in_err-journal_1-clause-images g c =
     let laws = g.met.D.Disk g.world.𝓛 g.world.𝓜 g.world.𝓡 ((λ s x. x), (λ x. x), (λ x. x), λ x. x) in
     if_told (g.D.Disk.seen c.args.disk.now) (λ image is none.
     let told : IsSome (g.D.Disk.seen c.args.disk.now) = rw is refl in
@@ -40,6 +40,6 @@ returns-clause-stands g c =
     is none
     (c.settle.ensures.read told) (c.settle-2.ensures.read known) c.in_ok-settle.ensures.settled
     c.in_ok-settle-2.ensures.settled c.blank.ensures.others c.blank-2.ensures.others _
-    (c.in_ok-zero.ensures.empty also) (c.in_ok-one.ensures.empty more) c.requires.up.0 c.requires.up.1
+    (c.in_ok-journal_0.ensures.empty also) (c.in_ok-journal_1.ensures.empty more) c.requires.up.0 c.requires.up.1
     c.requires.empty.0
     c.requires.empty.1)
