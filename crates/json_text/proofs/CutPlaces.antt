@@ -6,7 +6,8 @@ use Rattle.json_text.specs.declared.fault.Fault.{Fault}
 use Rattle.json_text.specs.declared.fault.Fault.TheVariants as fault
 use Rattle.json_text.specs.Grammar.{Padded}
 use Rattle.json_text.specs.Faults.{IsSpelled, BeginsWithin, BracketHere, IsPlace, IsLongest, FaultAt}
-use Rattle.json_text.specs.Reading.{text_read, placed}
+use Rattle.json_text.specs.Answers.{placed}
+use Rattle.json_text.specs.Reading.{text_read}
 use Rattle.json_text.proofs.Sequences.{valid_here}
 use Rattle.json_text.proofs.AcceptsValues.{text_taken}
 use Rattle.json_text.proofs.Cuts.{left_of, Alike, alike_same, Counts, Cut}

@@ -4,5 +4,6 @@ pub mod Strings
 pub mod Grammar
 pub mod Places
 pub mod Reading
+pub mod Answers
 pub mod Faults
 pub mod Canonical

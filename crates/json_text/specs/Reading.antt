@@ -1,12 +1,10 @@
 -- Reading from left to right: the value at the front and what is behind it, or the first fault.
-use Rattle.std.specs.Prelude.{ℕ, zero, suc, ℤ, ◌≡◌, ◌==◌, ◌+◌, ◌-◌, ◌*◌, ◌⊎◌, Bool, true, false, ◌&&◌, ◌||◌, not, List, [], ◌∷◌, ◌++◌, length, take, drop, Option, Some, None, Result, Ok, Err, if◌then◌else◌}
+use Rattle.std.specs.Prelude.{ℕ, zero, suc, ℤ, ◌≡◌, ◌==◌, ◌+◌, ◌*◌, Bool, true, false, ◌&&◌, ◌||◌, not, List, [], ◌∷◌, ◌++◌, length, take, drop, Option, Some, None, Result, Ok, Err, if◌then◌else◌}
 use Rattle.std.specs.List.{prefix_len}
 use Rattle.std.specs.Char.{encode_utf8}
 use Rattle.std.specs.Str.Lossy.{utf8_valid_len}
 use Rattle.doc_model.specs.declared.node.Node.{Node}
 use Rattle.doc_model.specs.declared.node.Node.TheVariants as node
-use Rattle.json_text.specs.declared.bad.JsonBad.{JsonBad}
-use Rattle.json_text.specs.declared.bad.JsonBad.TheVariants as bad
 use Rattle.json_text.specs.declared.fault.Fault.{Fault}
 use Rattle.json_text.specs.declared.fault.Fault.TheVariants as fault
 use Rattle.json_text.specs.declared.fault.Stop.{Stop}
@@ -288,20 +286,3 @@ at_end (v, b ∷ bytes) = Err (unexpected (b ∷ bytes))
 -- a whole text
 unfoldable pub text_read : List ℕ → Result Node Fault
 text_read bytes = value_at 128 (behind_white bytes) >>= λ x. at_end (x.0, behind_white x.1)
-
--- the fault of a text of so many bytes, by its place
-abbrev pub placed : ℕ → Fault → JsonBad
-placed len (fault.Syntax left) = bad.Syntax (len - left)
-placed len (fault.Utf8 left) = bad.Utf8 (len - left)
-placed len (fault.Depth left) = bad.Depth (len - left)
-placed len (fault.Number left) = bad.Number (len - left)
-
--- the answer is what reading the bytes gives: the tree, or the first fault and its place; want of memory is free
-abbrev pub Answers : List ℕ → Result Node JsonBad → Type 0
-Answers bytes (Ok v) = text_read bytes ≡ Ok v
-Answers bytes (Err e) = (e ≡ bad.Memory) ⊎ ((f : Fault) × (text_read bytes ≡ Err f) × (e ≡ placed (length bytes) f))
-
--- the answer is this tree; want of memory is free
-abbrev pub Takes : Node → Result Node JsonBad → Type 0
-Takes v (Ok w) = w ≡ v
-Takes v (Err e) = e ≡ bad.Memory

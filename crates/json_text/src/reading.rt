@@ -1,8 +1,9 @@
 ghost use Rattle.std.specs.Prelude.{◌≡◌, ◌-◌, IfOk, IfErr};
 ghost use Rattle.doc_model.specs.declared.node.Node.{Node};
+ghost use Rattle.json_text.specs.Answers.{Answers, Takes, placed};
 ghost use Rattle.json_text.specs.Faults.{FaultAt};
 ghost use Rattle.json_text.specs.Grammar.{IsJson};
-ghost use Rattle.json_text.specs.Reading.{Gives, text_read, placed, Answers, Takes};
+ghost use Rattle.json_text.specs.Reading.{Gives, text_read};
 
 use crate::bad::JsonBad;
 use crate::fault::{Fault, Stop};
