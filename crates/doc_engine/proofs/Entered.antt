@@ -6,12 +6,13 @@ use Rattle.doc_model.specs.Operations.{uri_of}
 use Rattle.doc_model.specs.declared.entry.Entry.TheVariants.{Commit}
 use Rattle.doc_model.specs.declared.op.Op.{Op}
 use Rattle.doc_engine.specs.Held.{Held, IsAt}
+use Rattle.doc_meaning.proofs.EntryLemmas.{merge_after_push}
 use Rattle.doc_meaning.proofs.HistoryLemmas.{latest_with_commit}
 use Rattle.doc_meaning.specs.History.{History, after_ops, front, latest}
 use Rattle.doc_meaning.specs.Laws.{with_commit}
 use Rattle.doc_meaning.specs.Replies.{commit_reply, differs, first_twice, last_timestamp}
 use Rattle.doc_meaning.specs.declared.replies.CommitReply.TheVariants.{Entered}
-use Rattle.journal_meaning.proofs.EntryLemmas.{front_push, merge_after_push}
+use Rattle.journal_meaning.proofs.EntryLemmas.{front_push}
 
 -- a commit that names no URI twice and agrees, while there is room, is entered
 pub reply_entered : (held : Held) (h : History) (ops : List Op) (end : ℕ) → IsAt held h

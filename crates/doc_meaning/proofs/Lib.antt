@@ -1,6 +1,8 @@
 pub mod AnyLemmas
 pub mod BoundsLemmas
 pub mod CommitLemmas
+pub mod DistinctLemmas
+pub mod EntryLemmas
 pub mod EstimateLemmas
 pub mod HistoryLemmas
 pub mod MeaningLemmas

@@ -16,6 +16,7 @@ use Rattle.doc_engine.specs.Standing.{ShowsWith, StandsFor}
 use Rattle.doc_engine.specs.declared.engine.Engine.{Engine}
 use Rattle.doc_engine.specs.declared.refusal.CommitRefusal.{CommitRefusal}
 use Rattle.doc_engine.specs.declared.refusal.CommitRefusal.TheVariants as refusal
+use Rattle.doc_meaning.proofs.EntryLemmas.{merge_after_push}
 use Rattle.doc_meaning.specs.History.{Base, History, front, latest, merge}
 use Rattle.doc_meaning.specs.Replies.{differs, first_twice, is_spent}
 use Rattle.doc_model.specs.Operations.{AreOps, uri_of}
@@ -30,7 +31,7 @@ use Rattle.engine_session.proofs.Turning.{up_none}
 use Rattle.engine_session.specs.Pending.{pending_behind, pending_of}
 use Rattle.engine_session.specs.Step.{HasCommitted}
 use Rattle.frame_log.proofs.Stretches.{throughout_weaker}
-use Rattle.journal_meaning.proofs.EntryLemmas.{front_push, merge_after_push}
+use Rattle.journal_meaning.proofs.EntryLemmas.{front_push}
 use Rattle.transcript.specs.Legal.{Answers, IsDown, IsTurn, MayBeFull, UnlessDown}
 use Rattle.transcript.specs.Turns.{Answer, Turn, commit, commits, down, down_of, entries_of, fault, history_of}
 

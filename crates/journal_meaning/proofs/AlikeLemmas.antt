@@ -6,11 +6,12 @@ use Rattle.std.proofs.lemmas.List.FromFn.{get_or-map-range_with_len, length-map-
 use Rattle.std.specs.FinMap.{empty}
 use Rattle.std.specs.List.{range_with_len}
 use Rattle.doc_model.specs.declared.entry.Entry.{Entry}
+use Rattle.doc_meaning.proofs.EntryLemmas.{merge_after_push}
 use Rattle.doc_meaning.proofs.HistoryLemmas.{shown_is_the_same}
 use Rattle.doc_meaning.specs.History.{AreEntries, Base, Database, History, IsBase, after_entries, after_entry, base_at, database_at, front, latest, merge, merge_after, shown}
 use Rattle.journal_meaning.specs.Laws.{EntriesGoOnAlike, ShownBegins}
 use Rattle.journal_meaning.specs.Shown.{with_entry}
-use Rattle.journal_meaning.proofs.EntryLemmas.{front_push, merge_after_push, merge_rises}
+use Rattle.journal_meaning.proofs.EntryLemmas.{front_push, merge_rises}
 
 -- where each of a range is the same, all are
 ranges_same : {X : Type 0} (d : X) (f g : ℕ → X) (a n : ℕ) → ((at : ℕ) → a ≤ at → at < a + n → f at ≡ g at) →

@@ -2,12 +2,13 @@
 use Rattle.std.proofs.Common.{◌≡◌, ◌⊎◌, inl, inr, ℕ, zero, suc, ◌+◌, ◌-◌, ◌<◌, List, [], ◌∷◌, ◌++◌, length, map, refl, sym, ap, ap₂, ◌∙◌, subst, subst₂, arith, append_assoc, length-append}
 use Rattle.std.proofs.lemmas.List.{map-append}
 use Rattle.doc_model.specs.declared.entry.Entry.{Entry}
+use Rattle.doc_meaning.proofs.EntryLemmas.{rules_push}
 use Rattle.doc_meaning.specs.History.{AreEntries, History, front, merge, merge_after}
 use Rattle.journal_bodies.specs.Entries.{SpellsEntry}
 use Rattle.journal_meaning.specs.Bodies.{Bodies, IsJournal, Numbered, RiseFrom, SpellEntries, TellsEntries, in_turn, past}
 use Rattle.journal_meaning.specs.Laws.{AnotherEntryIsTold}
 use Rattle.journal_meaning.specs.Shown.{IsCurrent, TakesNext, Tells, TellsAt, with_body, with_entry}
-use Rattle.journal_meaning.proofs.EntryLemmas.{front_push, merge_push, rules_push}
+use Rattle.journal_meaning.proofs.EntryLemmas.{front_push, merge_push}
 use Rattle.journal_meaning.proofs.OneLemmas.{one_journal, same_journal, same_root}
 use Rattle.journal_meaning.proofs.Rising.{first_first, past_push, rise_one, rise_push, second_first}
 

@@ -14,10 +14,10 @@ use Rattle.doc_model.specs.Operations.{uri_of}
 use Rattle.doc_model.specs.Tree.{is_among, is_distinct}
 use Rattle.doc_model.specs.declared.op.Op.{Op}
 use Rattle.doc_model.specs.declared.op.Op.TheVariants.{Put, Remove}
+use Rattle.doc_meaning.proofs.DistinctLemmas.{no_more, nor_both}
 use Rattle.doc_meaning.specs.declared.version.Version.{Version}
 use Rattle.doc_meaning.specs.History.{Database, after_op}
 use Rattle.live_documents.specs.declared.staged.Replaced.{Replaced}
-use Rattle.live_documents.proofs.TwiceLemmas.{no_more, nor_both}
 use Rattle.live_documents.specs.Staging.{before_put, before_puts, live_again, removed_by, restored, without}
 
 abbrev is_at : List ℕ → List ℕ → Bool

@@ -19,7 +19,7 @@ use Rattle.transcript.specs.Legal.{IsTurn, Answers, UnlessDown, is_stopped}
 use Rattle.transcript.specs.Turns as turns
 use Rattle.transcript.specs.Turns.{Event, Answer, Turn, entries_of, history_of, down_of}
 
-take_more : {X : Type 0} (xs : List X) (k : ℕ) (x : X) → slice_get xs k ≡ Some x → take (suc k) xs ≡ take k xs ++ x ∷ []
+pub take_more : {X : Type 0} (xs : List X) (k : ℕ) (x : X) → slice_get xs k ≡ Some x → take (suc k) xs ≡ take k xs ++ x ∷ []
 take_more [] k x is = absurd (none_is is)
   where
     none_is : None ≡ Some x → ⊥
@@ -33,37 +33,44 @@ pub stands : {X Y : Type 0} (f : X → List Y) (xs : List X) (k : ℕ) (x : X) (
 stands {X} {Y} f xs k x y here adds =
     let lt = slice_get_within xs k x here in
     let split : xs ≡ take k xs ++ x ∷ drop (suc k) xs =
-    sym (take-append-drop k xs) ∙ ap (λ (l : List X). take k xs ++ l) (drop-cons xs k x lt ∙ ap (λ (e : X). e ∷ drop (suc k) xs) (get_or_from_slice_get xs k x x here)) in
+    sym (take-append-drop k xs) ∙ ap (λ (l : List X). take k xs ++ l) (drop-cons xs k x lt ∙
+    ap (λ (e : X). e ∷ drop (suc k) xs) (get_or_from_slice_get xs k x x here)) in
     let before : List Y = flat_map f (take k xs) in
     let behind : List Y = flat_map f (drop (suc k) xs) in
     let whole : flat_map f xs ≡ before ++ y ∷ behind =
-    ap (flat_map f) split ∙ (flat_map-append f (take k xs) (x ∷ drop (suc k) xs) ∙ ap (λ (l : List Y). before ++ (l ++ behind)) adds) in
+    ap (flat_map f) split ∙ (flat_map-append f (take k xs) (x ∷ drop (suc k) xs) ∙
+    ap (λ (l : List Y). before ++ (l ++ behind)) adds) in
     let within : length before < length (before ++ y ∷ behind) = omega (arith, length-append before (y ∷ behind)) in
     ap (λ (l : List Y). slice_get l (length before)) whole
-    ∙ (slice_get-get_or (before ++ y ∷ behind) (length before) y within ∙ ap (λ (e : Y). Some e) (get_or-append_seam before y behind y))
+    ∙ (slice_get-get_or (before ++ y ∷ behind) (length before) y within ∙
+    ap (λ (e : Y). Some e) (get_or-append_seam before y behind y))
 
 entered : (h : History) (at : ℕ) (twice : Option (List ℕ)) (conflict : Option Op) (spent : Bool) →
-    unless_twice twice (unless_conflict h conflict (if spent then committed.Spent (front h) else committed.Entered (front h + 1))) ≡ committed.Entered at → at ≡ front h + 1
+    unless_twice twice (unless_conflict h conflict (if spent then committed.Spent (front h) else committed.Entered
+    (front h + 1))) ≡ committed.Entered at → at ≡ front h + 1
 entered h at (Some uri) conflict spent is = absurd (cc)
 entered h at None (Some op) spent is = absurd (cc)
 entered h at None None true is = absurd (cc)
 entered h at None None false is = cc
 
 forgotten : (h : History) (at to : ℕ) (back ahead spent : Bool) (merged : ℕ) →
-    (if back then forgot.Back to merged else if ahead then forgot.Ahead to (front h) else if spent then forgot.Spent (front h) else forgot.Entered (front h + 1)) ≡ forgot.Entered at → at ≡ front h + 1
+    (if back then forgot.Back to merged else if ahead then forgot.Ahead to (front h) else if spent then forgot.Spent
+    (front h) else forgot.Entered (front h + 1)) ≡ forgot.Entered at → at ≡ front h + 1
 forgotten h at to true ahead spent merged is = absurd (cc)
 forgotten h at to false true spent merged is = absurd (cc)
 forgotten h at to false false true merged is = absurd (cc)
 forgotten h at to false false false merged is = cc
 
 -- what a legal turn that is no want of memory and not stopped is answered
-answered : {Defined : Type 0} (stopped : Bool) (count : Option ℕ) (answer : Answer) → ((n : ℕ) → answer ≡ turns.down n → ⊥) → UnlessDown stopped count answer Defined → Defined
+pub answered : {Defined : Type 0} (stopped : Bool) (count : Option ℕ) (answer : Answer) →
+    ((n : ℕ) → answer ≡ turns.down n → ⊥) → UnlessDown stopped count answer Defined → Defined
 answered true (Some n) answer differs is = absurd (differs n is)
 answered true None answer differs is = is
 answered false count answer differs is = is
 
 commit_at : (base : Base) (longest : ℕ) (before : List Turn) (turn : Turn) (ops : List Op) (at : ℕ) →
-    turn.call ≡ turns.commit ops → turn.answer ≡ turns.commits (committed.Entered at) → IsTurn base longest before turn → at ≡ front (history_of base before) + 1
+    turn.call ≡ turns.commit ops → turn.answer ≡ turns.commits (committed.Entered at) →
+    IsTurn base longest before turn → at ≡ front (history_of base before) + 1
 commit_at base longest before turn ops at asks says legal =
     let h = history_of base before in
     ⊎_elim
@@ -71,11 +78,14 @@ commit_at base longest before turn ops at asks says legal =
     (λ is. ⊎_elim
     (λ defined. entered h at (first_twice [] (map uri_of ops)) (find (differs (latest h)) ops) (is_spent defined.0 h) cc)
     (λ failed. let fails = failed.0 in absurd (cc))
-    (answered true (down_of before) turn.answer (λ n e. absurd (cc)) (subst (λ (c : Event). UnlessDown (is_stopped c) (down_of before) turn.answer (Answers base longest before c turn.answer)) asks is)))
+    (answered true (down_of before) turn.answer (λ n e. absurd (cc))
+    (subst (λ (c : Event). UnlessDown (is_stopped c) (down_of before) turn.answer
+    (Answers base longest before c turn.answer)) asks is)))
     legal.answers
 
 forget_at : (base : Base) (longest : ℕ) (before : List Turn) (turn : Turn) (to at : ℕ) →
-    turn.call ≡ turns.forget to → turn.answer ≡ turns.forgets (forgot.Entered at) → IsTurn base longest before turn → at ≡ front (history_of base before) + 1
+    turn.call ≡ turns.forget to → turn.answer ≡ turns.forgets (forgot.Entered at) → IsTurn base longest before turn →
+    at ≡ front (history_of base before) + 1
 forget_at base longest before turn to at asks says legal =
     let h = history_of base before in
     ⊎_elim
@@ -83,11 +93,14 @@ forget_at base longest before turn to at asks says legal =
     (λ is. ⊎_elim
     (λ defined. forgotten h at to (nat_lt to (merge h)) (nat_lt (front h) to) (is_spent defined.0 h) (merge h) cc)
     (λ failed. let fails = failed.0 in absurd (cc))
-    (answered true (down_of before) turn.answer (λ n e. absurd (cc)) (subst (λ (c : Event). UnlessDown (is_stopped c) (down_of before) turn.answer (Answers base longest before c turn.answer)) asks is)))
+    (answered true (down_of before) turn.answer (λ n e. absurd (cc))
+    (subst (λ (c : Event). UnlessDown (is_stopped c) (down_of before) turn.answer
+    (Answers base longest before c turn.answer)) asks is)))
     legal.answers
 
 -- it makes its entry, at the timestamp behind those before it
-enters : (base : Base) (longest : ℕ) (before : List Turn) (turn : Turn) (at : ℕ) (made : Entry) → Enters turn at made → IsTurn base longest before turn
+enters : (base : Base) (longest : ℕ) (before : List Turn) (turn : Turn) (at : ℕ) (made : Entry) →
+    Enters turn at made → IsTurn base longest before turn
     → (at ≡ front (history_of base before) + 1) × (entries_of turn.call turn.answer ≡ made ∷ [])
 enters base longest before turn at made (inl (ops, asks, says, is)) legal =
     (commit_at base longest before turn ops at asks says legal, rw (asks, says, is) refl)
@@ -109,8 +122,9 @@ history_has_each_once base longest list k at turn made legal here is =
     (next, next ∙ sym more, ap (λ (n : ℕ). slice_get (flat_map f list) n) place ∙ stands f list k turn made here makes)
 
 -- what a turn makes: no entry, or one
-makes : (call : Event) (answer : Answer)
-    → (entries_of call answer ≡ []) ⊎ ((at : ℕ) × (made : Entry) × (entries_of call answer ≡ made ∷ []) × EntersAs call answer at made)
+pub makes : (call : Event) (answer : Answer)
+    → (entries_of call answer ≡ []) ⊎ ((at : ℕ) × (made : Entry) × (entries_of call answer ≡ made ∷ []) ×
+    EntersAs call answer at made)
 makes (turns.commit ops) (turns.commits (committed.Entered at)) = inr (at, entry.Commit ops, refl, inl (ops, refl, refl, refl))
 makes (turns.commit ops) (turns.commits (committed.Twice uri)) = inl refl
 makes (turns.commit ops) (turns.commits (committed.Conflict uri found at)) = inl refl
@@ -153,19 +167,29 @@ makes (turns.abandon n) answer = inl refl
 makes turns.tidy answer = inl refl
 makes turns.revive answer = inl refl
 
-abbrev entries_by : Turn → List Entry
+abbrev pub entries_by : Turn → List Entry
 entries_by turn = entries_of turn.call turn.answer
 
 -- an entry is that of a turn behind so many
 abbrev ComesFrom : List Turn → ℕ → Entry → Type 0
 ComesFrom list i made =
-    (k : ℕ) × (turn : Turn) × (at : ℕ) × (slice_get list k ≡ Some turn) × Enters turn at made × (length (flat_map entries_by (take k list)) ≡ i)
+    (k : ℕ) × (turn : Turn) × (at : ℕ) × (slice_get list k ≡ Some turn) × Enters turn at made ×
+    (length (flat_map entries_by (take k list)) ≡ i)
 
-behind : (turn : Turn) (list : List Turn) (i j : ℕ) (made : Entry) → length (entries_by turn) + j ≡ i → ComesFrom list j made → ComesFrom (turn ∷ list) i made
-behind turn list i j made sum (k, later, at, here, enters, place) =
-    (suc k, later, at, here, enters, length-append (entries_by turn) (flat_map entries_by (take k list)) ∙ (ap (λ (n : ℕ). length (entries_by turn) + n) place ∙ sum))
+behind : (turn : Turn) (list : List Turn) (i j : ℕ) (made : Entry) → length (entries_by turn) + j ≡ i →
+    ComesFrom list j made → ComesFrom (turn ∷ list) i made
+behind turn list i j made sum (k, later, at, here, enters, place) = (
+  suc k,
+  later,
+  at,
+  here,
+  enters,
+  length-append (entries_by turn) (flat_map entries_by (take k list)) ∙
+      (ap (λ (n : ℕ). length (entries_by turn) + n) place ∙ sum),
+)
 
-comes_first : (turn : Turn) (list : List Turn) (i at : ℕ) (first made : Entry) → entries_by turn ≡ first ∷ [] → Enters turn at first
+comes_first : (turn : Turn) (list : List Turn) (i at : ℕ) (first made : Entry) → entries_by turn ≡ first ∷ [] →
+    Enters turn at first
     → ((j : ℕ) → slice_get (flat_map entries_by list) j ≡ Some made → ComesFrom list j made)
     → slice_get (first ∷ flat_map entries_by list) i ≡ Some made → ComesFrom (turn ∷ list) i made
 comes_first turn list zero at first made one enters rest is =
@@ -179,14 +203,17 @@ comes_next : (turn : Turn) (list : List Turn) (i : ℕ) (made : Entry)
     → slice_get (entries_by turn ++ flat_map entries_by list) i ≡ Some made → ComesFrom (turn ∷ list) i made
 comes_next turn list i made rest is =
     ⊎_elim
-    (λ none. behind turn list i i made (omega (arith, ap (λ (es : List Entry). length es) none)) (rest i (subst (λ (es : List Entry). slice_get (es ++ flat_map entries_by list) i ≡ Some made) none is)))
-    (λ one. comes_first turn list i one.0 one.1 made one.2 one.3 rest (subst (λ (es : List Entry). slice_get (es ++ flat_map entries_by list) i ≡ Some made) one.2 is))
+    (λ none. behind turn list i i made (omega (arith, ap (λ (es : List Entry). length es) none))
+    (rest i (subst (λ (es : List Entry). slice_get (es ++ flat_map entries_by list) i ≡ Some made) none is)))
+    (λ one. comes_first turn list i one.0 one.1 made one.2 one.3 rest
+    (subst (λ (es : List Entry). slice_get (es ++ flat_map entries_by list) i ≡ Some made) one.2 is))
     (makes turn.call turn.answer)
 
 none_is : {X : Type 0} (x : X) → None ≡ Some x → ⊥
 none_is x e = cc
 
-comes_from : (list : List Turn) (i : ℕ) (made : Entry) → slice_get (flat_map entries_by list) i ≡ Some made → ComesFrom list i made
+comes_from : (list : List Turn) (i : ℕ) (made : Entry) → slice_get (flat_map entries_by list) i ≡ Some made →
+    ComesFrom list i made
 comes_from [] i made is = absurd (none_is made is)
 comes_from (turn ∷ list) i made is = comes_next turn list i made (λ j here. comes_from list j made here) is
 

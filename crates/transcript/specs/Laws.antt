@@ -3,7 +3,7 @@ use Rattle.std.specs.Prelude.{ℕ, ◌≡◌, ◌≢◌, ◌+◌, ◌-◌, ◌�
 use Rattle.doc_model.specs.declared.entry.Entry.{Entry}
 use Rattle.doc_model.specs.declared.entry.Entry.TheVariants as entry
 use Rattle.doc_model.specs.declared.op.Op.{Op}
-use Rattle.doc_meaning.specs.History.{Base, front}
+use Rattle.doc_meaning.specs.History.{Base, IsBase, IsHistory, front}
 use Rattle.transcript.specs.Legal.{AreLegal}
 use Rattle.transcript.specs.Transcript.{Session, Agrees}
 use Rattle.transcript.specs.Turns.{Event, commit, forget, Answer, commits, forgets, Turn, history_of}
@@ -37,3 +37,9 @@ abbrev pub HistoryHasNoOthers : Type 0
 HistoryHasNoOthers = (base : Base) (longest : ℕ) (turns : List Turn) (i : ℕ) (made : Entry) →
     AreLegal base longest turns → slice_get (history_of base turns).entries i ≡ Some made →
     (k : ℕ) × (turn : Turn) × (slice_get turns k ≡ Some turn) × Enters turn (base.front + i + 1) made
+
+-- over a base, legal turns make a history that may come about: no commit names a URI twice, and each forget names a
+-- timestamp from the merge timestamp to the front
+abbrev pub LegalTurnsMakeAHistory : Type 0
+LegalTurnsMakeAHistory = (base : Base) (longest : ℕ) (turns : List Turn) → IsBase base → AreLegal base longest turns →
+    IsHistory (history_of base turns)

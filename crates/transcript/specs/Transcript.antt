@@ -32,7 +32,8 @@ ReadsAt old asked (Some h) say answer new = (answer ≡ say h) × (new ≡ recor
 ReadsAt old asked None say answer new = (answer ≡ reply.NoPin) × (new ≡ old)
 
 -- a command that reads: at the front or a timestamp by a look, or at the pin, whose front it reads
-abbrev pub AnswersRead : Base → SessionState → Command → When → List TurnAt → (History → ℕ → Reply) → Reply → SessionState → Type 0
+abbrev pub AnswersRead : Base → SessionState → Command → When → List TurnAt → (History → ℕ → Reply) → Reply →
+    SessionState → Type 0
 AnswersRead base old asked Front used say answer new =
     (h : History) × Looks base used h × ReadsAt old asked (Some h) (λ seen. say seen (front seen)) answer new
 AnswersRead base old asked (At t) used say answer new =

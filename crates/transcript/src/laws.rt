@@ -1,4 +1,4 @@
-ghost use Rattle.transcript.specs.Laws.{HistoryHasEachOnce, HistoryHasNoOthers, LaterTurnsChangeNothing};
+ghost use Rattle.transcript.specs.Laws.{HistoryHasEachOnce, HistoryHasNoOthers, LaterTurnsChangeNothing, LegalTurnsMakeAHistory};
 
 /// A session that agrees with turns agrees with them and any further turns of others.
 pub fn later_turns_change_nothing()
@@ -14,4 +14,9 @@ pub fn history_has_each_once()
 /// The history of legal turns has no entries but those of accepted commits and forgets.
 pub fn history_has_no_others()
     ensures { HistoryHasNoOthers }
+{}
+
+/// Over a base, legal turns make a history that may come about.
+pub fn legal_turns_make_a_history()
+    ensures { LegalTurnsMakeAHistory }
 {}

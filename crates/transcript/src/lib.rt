@@ -9,7 +9,10 @@ mod session_end;
 mod wish;
 
 pub use command::{Command, When};
-pub use laws::{history_has_each_once, history_has_no_others, later_turns_change_nothing};
+pub use laws::{
+    history_has_each_once, history_has_no_others, later_turns_change_nothing,
+    legal_turns_make_a_history,
+};
 pub use reply::{BadKind, Reply};
 pub use session_end::SessionEnd;
 pub use wish::Wish;

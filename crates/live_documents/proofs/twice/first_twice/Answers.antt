@@ -3,8 +3,9 @@ use Rattle.std.proofs.lemmas.Bool.{cond-false, cond-true}
 use Rattle.std.proofs.lemmas.List.{drop_all}
 use Rattle.doc_model.specs.Operations.{uri_of}
 use Rattle.doc_model.specs.Tree.{is_among}
+use Rattle.doc_meaning.proofs.DistinctLemmas.{distinct_from_none}
 use Rattle.doc_meaning.specs.Replies.{first_twice}
-use Rattle.live_documents.proofs.TwiceLemmas.{distinct_from_none, first_twice-more, named_more, one_more}
+use Rattle.live_documents.proofs.TwiceLemmas.{first_twice-more, named_more, one_more}
 use Rattle.live_documents.proofs.TwiceLemmas.{was_met, was_new}
 use Rattle.live_documents.proofs.twice.first_twice.Goals as goal
 
