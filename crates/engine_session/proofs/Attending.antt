@@ -7,11 +7,12 @@ use Rattle.disk_model.specs.declared.yard.Build
 use Rattle.disk_model.specs.declared.yard.SealedFile
 use Rattle.disk_model.specs.declared.yard.Yard
 use Rattle.doc_engine.specs.Held.{IsAt, held_of, journal_of}
+use Rattle.doc_engine.specs.Opening.{begins}
 use Rattle.doc_engine.specs.declared.engine.Engine.{Engine}
 use Rattle.doc_meaning.specs.History.{Base, IsBase}
 use Rattle.engine_session.proofs.Using.{serves_lines, state}
 use Rattle.engine_session.proofs.Taking.{goes_first}
-use Rattle.engine_session.specs.Attended.{Attended, begins}
+use Rattle.engine_session.specs.Attended.{Attended}
 use Rattle.engine_session.specs.Step.{Step}
 use Rattle.frame_log.specs.Standing.{end_of}
 use Rattle.journal.specs.Standing.{current_log}

@@ -9,11 +9,12 @@ use Rattle.disk_model.specs.declared.yard.Build
 use Rattle.disk_model.specs.declared.yard.SealedFile
 use Rattle.disk_model.specs.declared.yard.Yard
 use Rattle.doc_engine.specs.Held.{IsAt, held_of, journal_of}
+use Rattle.doc_engine.specs.Opening.{begins}
 use Rattle.doc_engine.specs.declared.engine.Engine.{Engine}
 use Rattle.doc_meaning.specs.History.{Base, IsBase}
 use Rattle.engine_session.proofs.Attending.{attended}
 use Rattle.engine_session.proofs.Staying.{Stays, lines_stay}
-use Rattle.engine_session.specs.Attended.{Attended, begins}
+use Rattle.engine_session.specs.Attended.{Attended}
 use Rattle.engine_session.specs.Step.{Step}
 use Rattle.engine_session.specs.declared.answering.Answering.{Answering}
 use Rattle.frame_log.specs.Standing.{end_of}

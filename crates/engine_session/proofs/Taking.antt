@@ -12,6 +12,7 @@ use Rattle.disk_model.specs.declared.yard.SealedFile
 use Rattle.disk_model.specs.declared.yard.Yard
 use Rattle.doc_engine.proofs.Standings.{standing_is_shown}
 use Rattle.doc_engine.specs.Held.{IsAt, disk_of, held_of, journal_of, yard_of}
+use Rattle.doc_engine.specs.Opening.{begins}
 use Rattle.doc_engine.specs.Standing.{ShowsWith, StandsFor}
 use Rattle.doc_engine.specs.declared.engine.Engine.{Engine}
 use Rattle.doc_meaning.specs.History.{Base, History, front, merge}
@@ -19,7 +20,7 @@ use Rattle.doc_model.specs.declared.entry.Entry.{Entry}
 use Rattle.engine_session.proofs.Crashing.{acknowledges_more, acknowledges_none, shows_all, shows_more, since_more}
 use Rattle.engine_session.proofs.Places.{at_more, single}
 use Rattle.engine_session.proofs.Turning.{down_last, pending_last, same_more}
-use Rattle.engine_session.specs.Attended.{AreCounted, Takes, begins}
+use Rattle.engine_session.specs.Attended.{AreCounted, Takes}
 use Rattle.engine_session.specs.Pending.{ShowsFrom, pending_behind, pending_of}
 use Rattle.frame_log.proofs.Stretches.{throughout_still}
 use Rattle.frame_log.specs.Standing.{end_of}

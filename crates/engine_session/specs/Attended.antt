@@ -1,14 +1,15 @@
 -- What a session did with an engine: the turns that it used, and what the engine is and its logs stand for behind them.
-use Rattle.std.specs.Prelude.{ℕ, ◌≡◌, ◌+◌, ◌*◌, ◌^◌, ◌≤◌, Bool, List, [], length, All, None, IfSome}
+use Rattle.std.specs.Prelude.{ℕ, ◌≡◌, ◌+◌, ◌*◌, ◌^◌, ◌≤◌, Bool, List, length, All, None, IfSome}
 use Rattle.disk_model.specs.Causes.{Rose}
 use Rattle.disk_model.specs.declared.disk.Disk
 use Rattle.disk_model.specs.declared.yard.Build
 use Rattle.disk_model.specs.declared.yard.SealedFile
 use Rattle.disk_model.specs.declared.yard.Yard
 use Rattle.doc_engine.specs.Held.{IsAt, disk_of, held_of, journal_of, yard_of}
+use Rattle.doc_engine.specs.Opening.{begins}
 use Rattle.doc_engine.specs.Standing.{StandsFor}
 use Rattle.doc_engine.specs.declared.engine.Engine.{Engine}
-use Rattle.doc_meaning.specs.History.{Base, History}
+use Rattle.doc_meaning.specs.History.{Base}
 use Rattle.engine_session.specs.Pending.{Acknowledges, ShowsFrom, pending_of}
 use Rattle.frame_log.specs.Standing.{Since, end_of}
 use Rattle.journal.specs.Standing.{current_log}
@@ -16,10 +17,6 @@ use Rattle.transcript.specs.Legal.{AreLegal}
 use Rattle.transcript.specs.Transcript.{Agrees}
 use Rattle.transcript.specs.Turns.{Turn, down_of, history_of}
 use Rattle.transcript.specs.declared.session_end.SessionEnd.{SessionEnd}
-
--- the history that begins with the base and has no entry
-abbrev pub begins : Base → History
-begins base = record { base = base; entries = [] }
 
 -- each fault of a log that turns met was counted between these two counts of the disk
 abbrev pub AreCounted : ℕ → ℕ → List Turn → Type 0

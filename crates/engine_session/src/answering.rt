@@ -1,3 +1,4 @@
+// A service over a state, by a closure.
 use client_run::Service;
 use transcript::{Command, Reply};
 

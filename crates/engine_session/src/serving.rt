@@ -3,8 +3,9 @@ ghost use Rattle.std.specs.Prelude.{◌≡◌, ◌≤◌, ℕ, Bool, None, IsTru
 ghost use Rattle.std.specs.Io.KnownBytes.{Consumes, Appends, IsAtEnd};
 ghost use Rattle.disk_model.specs.Causes.{Rose};
 ghost use Rattle.doc_engine.specs.Held.{IsAt, disk_of, held_of, journal_of, yard_of};
+ghost use Rattle.doc_engine.specs.Opening.{begins};
 ghost use Rattle.doc_meaning.specs.History.{Base, IsBase};
-ghost use Rattle.engine_session.specs.Attended.{Attended, begins};
+ghost use Rattle.engine_session.specs.Attended.{Attended};
 ghost use Rattle.engine_session.specs.Ended.{HasEnded};
 ghost use Rattle.engine_session.specs.Step.{Step};
 ghost use Rattle.frame_log.specs.Standing.{end_of};
