@@ -33,25 +33,32 @@ take-within : (a b : List ℕ) (n : ℕ) → take n a ≡ take (min n (length a)
 take-within a b n = grind (arith, common_steps)
 
 -- one piece, and then another
-pub passes_more : (done : Unit {0}) (result : Result (Unit {0}) Failed) (w v u : List ℕ) (x y z : Option (List ℕ)) (a b : List ℕ) →
+pub passes_more : (done : Unit {0}) (result : Result (Unit {0}) Failed) (w v u : List ℕ) (x y z : Option (List ℕ))
+    (a b : List ℕ) →
     Passes (Ok done) w v x y a → Passes result v u y z b → Passes result w u x z (a ++ b)
 passes_more done (Ok also) w v u x y z a b h k = (
   h.0 ++ k.0,
   appends_more x y z h.0 k.0 h.1 k.1,
-  append_assoc h.0 k.0 u ∙ (ap (λ (l : List ℕ). h.0 ++ l) k.2 ∙ (sym (append_assoc h.0 v b) ∙ (ap (λ (l : List ℕ). l ++ b) h.2 ∙ append_assoc w a b))),
+  append_assoc h.0 k.0 u ∙
+      (ap (λ (l : List ℕ). h.0 ++ l) k.2 ∙
+      (sym (append_assoc h.0 v b) ∙ (ap (λ (l : List ℕ). l ++ b) h.2 ∙ append_assoc w a b))),
 )
 passes_more done (Err failed) w v u x y z a b h k =
-    let whole : h.0 ++ (v ++ b) ≡ w ++ (a ++ b) = sym (append_assoc h.0 v b) ∙ (ap (λ (l : List ℕ). l ++ b) h.2 ∙ append_assoc w a b) in (
+    let whole : h.0 ++ (v ++ b) ≡ w ++ (a ++ b) =
+    sym (append_assoc h.0 v b) ∙ (ap (λ (l : List ℕ). l ++ b) h.2 ∙ append_assoc w a b) in (
       length h.0 + k.0,
-      subst (λ (l : List ℕ). Appends x z l) (take-front h.0 (v ++ b) k.0 ∙ ap (λ (l : List ℕ). take (length h.0 + k.0) l) whole) (appends_more x y z h.0 (take k.0 (v ++ b)) h.1 k.1),
+      subst (λ (l : List ℕ). Appends x z l) (take-front h.0 (v ++ b) k.0 ∙
+          ap (λ (l : List ℕ). take (length h.0 + k.0) l) whole) (appends_more x y z h.0 (take k.0 (v ++ b)) h.1 k.1),
       omega (arith, ap length whole, length-append h.0 (v ++ b), k.2),
     )
 
 -- one piece that failed, and nothing more
-pub passes_stop : (failed : Failed) (w v u : List ℕ) (x y : Option (List ℕ)) (a b : List ℕ) → Passes (Err failed) w v x y a → Passes (Err failed) w u x y (a ++ b)
+pub passes_stop : (failed : Failed) (w v u : List ℕ) (x y : Option (List ℕ)) (a b : List ℕ) →
+    Passes (Err failed) w v x y a → Passes (Err failed) w u x y (a ++ b)
 passes_stop failed w v u x y a b h = (
   min h.0 (length (w ++ a)),
-  subst (λ (l : List ℕ). Appends x y l) (take-within (w ++ a) b h.0 ∙ ap (λ (l : List ℕ). take (min h.0 (length (w ++ a))) l) (append_assoc w a b)) h.1,
+  subst (λ (l : List ℕ). Appends x y l) (take-within (w ++ a) b h.0 ∙
+      ap (λ (l : List ℕ). take (min h.0 (length (w ++ a))) l) (append_assoc w a b)) h.1,
   omega (arith, h.2, length-append w a, length-append w (a ++ b), length-append a b),
 )
 
@@ -63,23 +70,31 @@ take-more : (at n : ℕ) (bytes : List ℕ) → take at bytes ++ take n (drop at
 take-more at n bytes =
     let le : at ≤ at + n = omega arith in
     ap (λ (l : List ℕ). l ++ take n (drop at bytes)) (sym (take-take at (at + n) bytes le))
-    ∙ (ap (λ (l : List ℕ). take at (take (at + n) bytes) ++ l) (sym (drop-take at n bytes)) ∙ take-append-drop at (take (at + n) bytes))
+    ∙ (ap (λ (l : List ℕ). take at (take (at + n) bytes) ++ l) (sym (drop-take at n bytes)) ∙
+    take-append-drop at (take (at + n) bytes))
 
 -- what waited went, and a further piece waits
 pub passes_on : (done also : Unit {0}) (w v u t : List ℕ) (x y z : Option (List ℕ)) (bytes : List ℕ) (at n : ℕ) →
-    Passes (Ok done) w v x y (take at bytes) → Passes (Ok also) v u y z [] → t ≡ u ++ take n (take (length bytes - at) (drop at bytes)) → Passes (Ok done) w t x z (take (at + n) bytes)
+    Passes (Ok done) w v x y (take at bytes) → Passes (Ok also) v u y z [] →
+    t ≡ u ++ take n (take (length bytes - at) (drop at bytes)) → Passes (Ok done) w t x z (take (at + n) bytes)
 passes_on done also w v u t x y z bytes at n h k is =
     let kept : t ≡ u ++ take n (drop at bytes) = is ∙ ap (λ (l : List ℕ). u ++ take n l) (take_rest bytes at) in
-    subst (λ (l : List ℕ). Passes (Ok done) w t x z l) (ap (λ (l : List ℕ). l ++ take n (drop at bytes)) (append-nil (take at bytes)) ∙ take-more at n bytes)
-    (passes_more done (Ok done) w u t x z z (take at bytes ++ []) (take n (drop at bytes)) (passes_more done (Ok also) w v u x y z (take at bytes) [] h k) (passes_kept done u t z (take n (drop at bytes)) kept))
+    subst (λ (l : List ℕ). Passes (Ok done) w t x z l) (ap (λ (l : List ℕ). l ++ take n (drop at bytes))
+    (append-nil (take at bytes)) ∙ take-more at n bytes)
+    (passes_more done (Ok done) w u t x z z (take at bytes ++ []) (take n (drop at bytes))
+    (passes_more done (Ok also) w v u x y z (take at bytes) [] h k)
+    (passes_kept done u t z (take n (drop at bytes)) kept))
 
 -- what waited didn't go
-pub passes_off : (done : Unit {0}) (result : Result (Unit {0}) Failed) (failed : Failed) (w v u : List ℕ) (x y z : Option (List ℕ)) (bytes : List ℕ) (at : ℕ) →
+pub passes_off : (done : Unit {0}) (result : Result (Unit {0}) Failed) (failed : Failed) (w v u : List ℕ)
+    (x y z : Option (List ℕ)) (bytes : List ℕ) (at : ℕ) →
     IsErr result → Passes (Ok done) w v x y (take at bytes) → Passes (Err failed) v u y z [] → Passes result w u x z bytes
 passes_off done (Ok also) failed w v u x y z bytes at is h k = absurd (cc)
 passes_off done (Err other) failed w v u x y z bytes at is h k =
-    subst (λ (l : List ℕ). Passes (Err other) w u x z l) (ap (λ (l : List ℕ). l ++ drop at bytes) (append-nil (take at bytes)) ∙ take-append-drop at bytes)
-    (passes_stop other w u u x z (take at bytes ++ []) (drop at bytes) (passes_more done (Err other) w v u x y z (take at bytes) [] h k))
+    subst (λ (l : List ℕ). Passes (Err other) w u x z l)
+    (ap (λ (l : List ℕ). l ++ drop at bytes) (append-nil (take at bytes)) ∙ take-append-drop at bytes)
+    (passes_stop other w u u x z (take at bytes ++ []) (drop at bytes)
+    (passes_more done (Err other) w v u x y z (take at bytes) [] h k))
 
 -- one piece failed, and the rest didn't come
 pub passes_short : (result : Result (Unit {0}) Failed) (failed : Failed) (w v u : List ℕ) (x y : Option (List ℕ)) (a b : List ℕ) →
@@ -88,30 +103,41 @@ passes_short (Ok also) failed w v u x y a b is h = absurd (cc)
 passes_short (Err other) failed w v u x y a b is h = passes_stop other w v u x y a b h
 
 module _ {X : Type 0} (f : X → List ℕ) where
-  flat-more : (xs : List X) (i : ℕ) (item : X) → i < length xs → item ≡ get_or xs i item → flat_map f (take (i + 1) xs) ≡ flat_map f (take i xs) ++ f item
+  flat-more : (xs : List X) (i : ℕ) (item : X) → i < length xs → item ≡ get_or xs i item →
+      flat_map f (take (i + 1) xs) ≡ flat_map f (take i xs) ++ f item
   flat-more xs i item lt is =
-      ap (flat_map f) (take_more xs i item lt) ∙ (ap (λ (e : X). flat_map f (take i xs ++ e ∷ [])) (sym is) ∙ sym (flat_map_more f [] (take i xs) item))
+      ap (flat_map f) (take_more xs i item lt) ∙ (ap (λ (e : X). flat_map f (take i xs ++ e ∷ [])) (sym is) ∙
+      sym (flat_map_more f [] (take i xs) item))
 
   flat-rest : (xs : List X) (n : ℕ) → flat_map f xs ≡ flat_map f (take n xs) ++ flat_map f (drop n xs)
   flat-rest xs n = ap (flat_map f) (sym (take-append-drop n xs)) ∙ flat_map-append f (take n xs) (drop n xs)
 
   -- a piece for each, and one more
-  pub passes_each : (done also : Unit {0}) (w v u : List ℕ) (x y z : Option (List ℕ)) (xs : List X) (i : ℕ) (item : X) → i < length xs → item ≡ get_or xs i item →
-      Passes (Ok done) w v x y (flat_map f (take i xs)) → Passes (Ok also) v u y z (f item) → Passes (Ok done) w u x z (flat_map f (take (i + 1) xs))
+  pub passes_each : (done also : Unit {0}) (w v u : List ℕ) (x y z : Option (List ℕ)) (xs : List X) (i : ℕ)
+      (item : X) → i < length xs → item ≡ get_or xs i item →
+      Passes (Ok done) w v x y (flat_map f (take i xs)) → Passes (Ok also) v u y z (f item) →
+      Passes (Ok done) w u x z (flat_map f (take (i + 1) xs))
   passes_each done also w v u x y z xs i item lt is h k =
-      subst (λ (l : List ℕ). Passes (Ok done) w u x z l) (sym (flat-more xs i item lt is)) (passes_more done (Ok also) w v u x y z (flat_map f (take i xs)) (f item) h k)
+      subst (λ (l : List ℕ). Passes (Ok done) w u x z l) (sym (flat-more xs i item lt is))
+      (passes_more done (Ok also) w v u x y z (flat_map f (take i xs)) (f item) h k)
 
   -- what stands at an index doesn't depend on the default
   pub at-index : (xs : List X) (i : ℕ) (d : X) → i < length xs → get_or xs i d ≡ get_or xs i (get_or xs i d)
   at-index xs i d lt = get_or_default xs i d (get_or xs i d) lt
 
   -- a piece for each, and one that failed
-  pub passes_break : (done : Unit {0}) (result : Result (Unit {0}) Failed) (failed : Failed) (w v u : List ℕ) (x y z : Option (List ℕ)) (xs : List X) (i : ℕ) (item : X) → i < length xs → item ≡ get_or xs i item →
-      IsErr result → Passes (Ok done) w v x y (flat_map f (take i xs)) → Passes (Err failed) v u y z (f item) → Passes result w u x z (flat_map f xs)
+  pub passes_break : (done : Unit {0}) (result : Result (Unit {0}) Failed) (failed : Failed) (w v u : List ℕ)
+      (x y z : Option (List ℕ)) (xs : List X) (i : ℕ) (item : X) → i < length xs → item ≡ get_or xs i item →
+      IsErr result → Passes (Ok done) w v x y (flat_map f (take i xs)) → Passes (Err failed) v u y z (f item) →
+      Passes result w u x z (flat_map f xs)
   passes_break done result failed w v u x y z xs i item lt is err h k =
-      subst (λ (l : List ℕ). Passes result w u x z l) (ap (λ (l : List ℕ). l ++ flat_map f (drop (i + 1) xs)) (sym (flat-more xs i item lt is)) ∙ sym (flat-rest xs (i + 1)))
-      (passes_short result failed w u u x z (flat_map f (take i xs) ++ f item) (flat_map f (drop (i + 1) xs)) err (passes_more done (Err failed) w v u x y z (flat_map f (take i xs)) (f item) h k))
+      subst (λ (l : List ℕ). Passes result w u x z l) (ap (λ (l : List ℕ). l ++ flat_map f (drop (i + 1) xs))
+      (sym (flat-more xs i item lt is)) ∙ sym (flat-rest xs (i + 1)))
+      (passes_short result failed w u u x z (flat_map f (take i xs) ++ f item) (flat_map f (drop (i + 1) xs)) err
+      (passes_more done (Err failed) w v u x y z (flat_map f (take i xs)) (f item) h k))
 
 -- where there is room behind a piece that was put as far as there was room, all of it was put
-pub all_put : (new old piece : List ℕ) (n : ℕ) → new ≡ old ++ take n piece → n ≡ min (length piece) (65536 - length old) → length new < 65536 → n ≡ length piece
-all_put new old piece n is count lt = omega (arith, ap length is, length-append old (take n piece), length-take n piece, count, lt)
+pub all_put : (new old piece : List ℕ) (n : ℕ) → new ≡ old ++ take n piece →
+    n ≡ min (length piece) (65536 - length old) → length new < 65536 → n ≡ length piece
+all_put new old piece n is count lt =
+    omega (arith, ap length is, length-append old (take n piece), length-take n piece, count, lt)

@@ -36,8 +36,12 @@ module _ {S : Type 0} (answers : Relation S) (old : S) where
   says_bye (b ∷ line) is = inr (inl (is, refl, refl))
 
   -- a line that asks to quit ends the session
-  pub quits : (line waits waits' : List ℕ) (w w' : Option (List ℕ)) (result : SessionEnd) → Asks line Quit → Closes end.Quit result waits w w' (text_of reply.Bye) → AnswersOne answers old old line (Err result) waits waits' w w'
+  pub quits : (line waits waits' : List ℕ) (w w' : Option (List ℕ)) (result : SessionEnd) → Asks line Quit →
+      Closes end.Quit result waits w w' (text_of reply.Bye) → AnswersOne answers old old line (Err result) waits
+      waits' w w'
   quits line waits waits' w w' result asks (inl (is, went)) =
-      subst (λ (how : SessionEnd). AnswersOne answers old old line (Err how) waits waits' w w') (sym is) (Some reply.Bye, says_bye line asks, went, asks)
+      subst (λ (how : SessionEnd). AnswersOne answers old old line (Err how) waits waits' w w') (sym is)
+      (Some reply.Bye, says_bye line asks, went, asks)
   quits line waits waits' w w' result asks (inr (is, tears)) =
-      subst (λ (how : SessionEnd). AnswersOne answers old old line (Err how) waits waits' w w') (sym is) (Some reply.Bye, says_bye line asks, tears, inr asks)
+      subst (λ (how : SessionEnd). AnswersOne answers old old line (Err how) waits waits' w w') (sym is)
+      (Some reply.Bye, says_bye line asks, tears, inr asks)

@@ -10,12 +10,15 @@ use Rattle.transcript.specs.Transcript.{together, most_waiting, IsCut}
 first_texts : (k : ℕ) (texts : List (List ℕ)) → length (together (take k texts)) ≤ length (together texts)
 first_texts k texts =
     let parts : together texts ≡ together (take k texts) ++ together (drop k texts) =
-    ap together (sym (take-append-drop k texts)) ∙ flat_map-append (λ (t : List ℕ). t) (take k texts) (drop k texts) in
+    ap together (sym (take-append-drop k texts)) ∙ flat_map-append (λ (t : List ℕ). t) (take k texts)
+    (drop k texts) in
     omega (arith, ap length parts, length-append (together (take k texts)) (together (drop k texts)))
 
-module _ (texts : List (List ℕ)) (output waits : List ℕ) (sent : output ++ waits ≡ together texts) (room : length waits < most_waiting) where
+module _ (texts : List (List ℕ)) (output waits : List ℕ) (sent : output ++ waits ≡ together texts)
+    (room : length waits < most_waiting) where
   -- a beginning of what waits and more is one of all texts
-  torn : (n : ℕ) (bytes : List ℕ) → output ++ take n (waits ++ bytes) ≡ take (length output + n) (together texts ++ bytes)
+  torn : (n : ℕ) (bytes : List ℕ) → output ++ take n (waits ++ bytes) ≡ take (length output + n)
+      (together texts ++ bytes)
   torn n bytes =
       sym (take-append-add output (waits ++ bytes) n)
       ∙ ap (take (length output + n)) (sym (append_assoc output waits bytes) ∙ ap (λ (x : List ℕ). x ++ bytes) sent)
@@ -32,10 +35,19 @@ module _ (texts : List (List ℕ)) (output waits : List ℕ) (sent : output ++ w
   )
 
   -- with one text more
-  pub cut_behind : (text : List ℕ) (n : ℕ) → 0 < length (waits ++ text) → IsCut (texts ++ text ∷ []) (output ++ take n (waits ++ text))
+  pub cut_behind : (text : List ℕ) (n : ℕ) → 0 < length (waits ++ text) → IsCut (texts ++ text ∷ [])
+      (output ++ take n (waits ++ text))
   cut_behind text n some = (
     (length output + n, torn n text ∙ ap (take (length output + n)) (sym (together_more texts text))),
-    omega (arith, ap length (together_more texts text), length-append (together texts) text, ap length sent, length-append output waits, length-append waits text, some),
+    omega (
+      arith,
+      ap length (together_more texts text),
+      length-append (together texts) text,
+      ap length sent,
+      length-append output waits,
+      length-append waits text,
+      some,
+    ),
     omega (arith, ap (λ (ts : List (List ℕ)). length (together ts)) all_before, within (take n (waits ++ text))),
   )
     where

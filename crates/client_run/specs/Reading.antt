@@ -27,7 +27,8 @@ FindsFeed bytes (Some count) = (count < length bytes) × HasNoFeed (take count b
 -- what the bytes begin with
 abbrev pub Finds : Held → Find → Type 0
 Finds held (find.Line count) = FindsFeed held.pending (Some count) × (count ≤ longest_line)
-Finds held (find.Last count) = HasNoFeed held.pending × (count ≡ length held.pending) × (0 < count) × (count ≤ longest_line) × (held.over ≡ true)
+Finds held (find.Last count) =
+    HasNoFeed held.pending × (count ≡ length held.pending) × (0 < count) × (count ≤ longest_line) × (held.over ≡ true)
 Finds held find.End = (held.pending ≡ []) × (held.over ≡ true)
 Finds held find.Long = IsLong held.pending
 Finds held find.More = HasNoFeed held.pending × (length held.pending ≤ longest_line) × (held.over ≡ false)
@@ -35,13 +36,15 @@ Finds held find.More = HasNoFeed held.pending × (length held.pending ≤ longes
 -- bytes came behind those that were pending; over is exactly where none came, at the source's end
 abbrev pub Fills : Result (Unit {0}) Failed → Held → Held → Option (List ℕ) → Option (List ℕ) → Type 0
 Fills (Ok done) old new left left' =
-    (got : List ℕ) × Consumes left left' got × (new.pending ≡ old.pending ++ got) × (new.over ≡ true → IsAtEnd left') × (new.over ≡ false → 0 < length got)
+    (got : List ℕ) × Consumes left left' got × (new.pending ≡ old.pending ++ got) ×
+    (new.over ≡ true → IsAtEnd left') × (new.over ≡ false → 0 < length got)
 Fills (Err failed) old new left left' = Keeps left left' × (new ≡ old)
 
 -- behind the first bytes stand so many more that were read, none only at the source's end
 abbrev pub ReadsBehind : List ℕ → List ℕ → ℕ → Option (List ℕ) → Option (List ℕ) → Type 0
 ReadsBehind first new count left left' =
-    (got : List ℕ) × Consumes left left' got × (take (length first + count) new ≡ first ++ got) × (length got ≡ count) × (count ≡ 0 → IsAtEnd left')
+    (got : List ℕ) × Consumes left left' got × (take (length first + count) new ≡ first ++ got) ×
+    (length got ≡ count) × (count ≡ 0 → IsAtEnd left')
 
 -- bytes came behind those that were pending, and a reader that is over is at the source's end
 pub record Gathers (old new : Held) (left left' : Option (List ℕ)) : Type 0 where

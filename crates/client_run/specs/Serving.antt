@@ -17,19 +17,25 @@ use Rattle.transcript.specs.declared.session_end.SessionEnd.TheVariants as end
 
 -- the next line was found, or a fault ends the session: before a read all was sent, and more bytes were wanted
 abbrev pub FindsNext : Result Find SessionEnd → Held → List ℕ → List ℕ → Option (List ℕ) → Option (List ℕ) → Type 0
-FindsNext (Ok found) held waits waits' written written' = Finds held found × (found ≢ More) × Moves waits waits' written written' []
-FindsNext (Err end.ReadFault) held waits waits' written written' = Finds held More × (waits' ≡ []) × Moves waits waits' written written' []
+FindsNext (Ok found) held waits waits' written written' =
+    Finds held found × (found ≢ More) × Moves waits waits' written written' []
+FindsNext (Err end.ReadFault) held waits waits' written written' =
+    Finds held More × (waits' ≡ []) × Moves waits waits' written written' []
 FindsNext (Err end.WriteFault) held waits waits' written written' = Tears waits written written' []
 FindsNext (Err _) held waits waits' written written' = ⊥
 
 -- a line was answered: the session goes on, or the line asked to quit, or a write fault ends it
-abbrev pub AnswersOne : {S : Type 0} → Relation S → S → S → List ℕ → Result (Unit {0}) SessionEnd → List ℕ → List ℕ → Option (List ℕ) → Option (List ℕ) → Type 0
+abbrev pub AnswersOne : {S : Type 0} → Relation S → S → S → List ℕ → Result (Unit {0}) SessionEnd → List ℕ → List ℕ →
+    Option (List ℕ) → Option (List ℕ) → Type 0
 AnswersOne answers old new line (Ok done) waits waits' written written' =
-    (answer : Option Reply) × AnswersLine answers old line answer new × Moves waits waits' written written' (text_of_answer answer) × (Asks line Quit → ⊥)
+    (answer : Option Reply) × AnswersLine answers old line answer new ×
+    Moves waits waits' written written' (text_of_answer answer) × (Asks line Quit → ⊥)
 AnswersOne answers old new line (Err end.Quit) waits waits' written written' =
-    (answer : Option Reply) × AnswersLine answers old line answer new × Appends written written' (waits ++ text_of_answer answer) × Asks line Quit
+    (answer : Option Reply) × AnswersLine answers old line answer new ×
+    Appends written written' (waits ++ text_of_answer answer) × Asks line Quit
 AnswersOne answers old new line (Err end.WriteFault) waits waits' written written' =
-    (answer : Option Reply) × AnswersLine answers old line answer new × Tears waits written written' (text_of_answer answer) × ((Asks line Quit → ⊥) ⊎ Asks line Quit)
+    (answer : Option Reply) × AnswersLine answers old line answer new ×
+    Tears waits written written' (text_of_answer answer) × ((Asks line Quit → ⊥) ⊎ Asks line Quit)
 AnswersOne answers old new line (Err _) waits waits' written written' = ⊥
 
 -- where a session begins: its service, what its source has and what its sink was given
@@ -94,4 +100,5 @@ Stepped answers first (Err how) now count = Served answers first now how
 
 -- a step takes a session that stands there a line further, or ends it
 abbrev pub Steps : {S : Type 0} → Relation S → Result (Unit {0}) SessionEnd → Point S → Point S → ℕ → Type 0
-Steps {S} answers result old new count = (first : Start S) → SoFar answers first old count → Stepped answers first result new count
+Steps {S} answers result old new count =
+    (first : Start S) → SoFar answers first old count → Stepped answers first result new count

@@ -43,7 +43,8 @@ texts_of exchanges = map (λ e. text_of_answer e.answer) exchanges
 
 -- a session with a service that goes from old to new: it serves lines with which its input begins, and its output is
 -- the texts of their replies, as far as its end says; `over` says that the source told its end
-pub record Serves {S : Type 0} (answers : Relation S) (old new : S) (input output : List ℕ) (how : SessionEnd) (over : Bool) : Type 0 where
+pub record Serves {S : Type 0} (answers : Relation S) (old new : S) (input output : List ℕ) (how : SessionEnd)
+    (over : Bool) : Type 0 where
   pub exchanges : List Exchange
   pub behind : List ℕ
   pub lines : Begins input (lines_of exchanges) behind

@@ -17,6 +17,7 @@ pub if_ok : {T E : Type 0} {P Q : T → Type 0} → (r : Result T E) → ((v : T
 if_ok (Ok v) leads p = leads v p
 if_ok (Err e) leads p = p
 
-pub if_ok_both : {T E : Type 0} {P Q R : T → Type 0} → (r : Result T E) → ((v : T) → P v → Q v → R v) → IfOk r P → IfOk r Q → IfOk r R
+pub if_ok_both : {T E : Type 0} {P Q R : T → Type 0} → (r : Result T E) → ((v : T) → P v → Q v → R v) → IfOk r P →
+    IfOk r Q → IfOk r R
 if_ok_both (Ok v) leads p q = leads v p q
 if_ok_both (Err e) leads p q = p

@@ -7,7 +7,8 @@ use Rattle.disk_model.specs.Logs.{written_at, Torn, MayCut}
 
 -- three parts of a list
 pub parts : (place n : ℕ) (bytes : List ℕ) → take place bytes ++ take n (drop place bytes) ++ drop (place + n) bytes ≡ bytes
-parts place n bytes = rw (← drop-drop n place bytes, append_assoc, take-append-drop n (drop place bytes)) (take-append-drop place bytes)
+parts place n bytes =
+    rw (← drop-drop n place bytes, append_assoc, take-append-drop n (drop place bytes)) (take-append-drop place bytes)
 
 pub front_part : (a b c : List ℕ) (k : ℕ) → length a ≡ k → take k (a ++ b ++ c) ≡ a
 front_part a b c k is = rw (← is, append_assoc) (take-append_seam a (b ++ c))
@@ -24,7 +25,12 @@ torn_same place n bytes = record {
 }
 
 pub whole_torn : (old bytes : List ℕ) (place : ℕ) → Torn place (length bytes) old (written_at old place bytes)
-whole_torn old bytes place = record { bytes = bytes; rest = refl; no_shorter = grind (arith, common_steps); no_longer = grind (arith, common_steps) }
+whole_torn old bytes place = record {
+  bytes = bytes;
+  rest = refl;
+  no_shorter = grind (arith, common_steps);
+  no_longer = grind (arith, common_steps);
+}
 
 pub cut_same : (len : ℕ) (bytes : List ℕ) → MayCut len bytes bytes
 cut_same len bytes = inr refl

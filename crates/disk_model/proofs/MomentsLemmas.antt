@@ -20,5 +20,6 @@ pub throughout_more : (before middle now : ℕ) (past between since : ℕ → Ou
 throughout_more before middle now past between since new P so_far goes is = record {
   later = omega (arith, so_far.later, goes.later);
   each = λ c left. ⊎_elim (λ then. so_far.each c then) (λ may. is c may) (goes.nothing_else before c so_far.later left);
-  earlier = λ t c le left. ⊎_elim (λ then. so_far.earlier t c le then) (λ may. inr (is c may)) (goes.nothing_else t c (omega (arith, le, so_far.later)) left);
+  earlier = λ t c le left. ⊎_elim (λ then. so_far.earlier t c le then) (λ may. inr (is c may))
+      (goes.nothing_else t c (omega (arith, le, so_far.later)) left);
 }

@@ -7,7 +7,8 @@ pub any-map : {A B : Type 0} (p : B → Bool) (f : A → B) (xs : List A) → li
 any-map p f [] = refl
 any-map p f (x ∷ xs) = ap (λ b. p (f x) || b) (any-map p f xs)
 
-pub any-flat_map : {A B : Type 0} (p : B → Bool) (f : A → List B) (xs : List A) → list_any p (flat_map f xs) ≡ list_any (λ x. list_any p (f x)) xs
+pub any-flat_map : {A B : Type 0} (p : B → Bool) (f : A → List B) (xs : List A) →
+    list_any p (flat_map f xs) ≡ list_any (λ x. list_any p (f x)) xs
 any-flat_map p f [] = refl
 any-flat_map p f (x ∷ xs) = list_any-append p (f x) (flat_map f xs) ∙ ap (λ b. list_any p (f x) || b) (any-flat_map p f xs)
 
@@ -15,12 +16,14 @@ pub any_same : {A : Type 0} (p q : A → Bool) → ((x : A) → p x ≡ q x) →
 any_same p q same [] = refl
 any_same p q same (x ∷ xs) = ap (λ b. b || list_any p xs) (same x) ∙ ap (λ b. q x || b) (any_same p q same xs)
 
-pub any_weaker : {A : Type 0} (p q : A → Bool) → ((x : A) → p x ≡ true → q x ≡ true) → (xs : List A) → list_any p xs ≡ true → list_any q xs ≡ true
+pub any_weaker : {A : Type 0} (p q : A → Bool) → ((x : A) → p x ≡ true → q x ≡ true) → (xs : List A) →
+    list_any p xs ≡ true → list_any q xs ≡ true
 any_weaker p q weaker xs is =
     let some = Any-from_list_any p xs is in
     list_any-from_Any q xs (some.0, some.1, some.2, some.3, weaker some.1 some.4)
 
-pub any_swapped : {A B : Type 0} (g : A → B → Bool) (xs : List A) (ys : List B) → list_any (λ x. list_any (g x) ys) xs ≡ true → list_any (λ y. list_any (λ x. g x y) xs) ys ≡ true
+pub any_swapped : {A B : Type 0} (g : A → B → Bool) (xs : List A) (ys : List B) →
+    list_any (λ x. list_any (g x) ys) xs ≡ true → list_any (λ y. list_any (λ x. g x y) xs) ys ≡ true
 any_swapped g xs ys is =
     let outer = Any-from_list_any (λ x. list_any (g x) ys) xs is in
     let inner = Any-from_list_any (g outer.1) ys outer.4 in

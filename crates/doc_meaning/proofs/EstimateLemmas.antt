@@ -9,13 +9,15 @@ use Rattle.doc_meaning.specs.Meaning.{sat}
 use Rattle.doc_meaning.specs.declared.version.Version.{Version}
 use Rattle.doc_meaning.proofs.BoundsLemmas.{satisfies_maybe}
 
-one_more : {X : Type 0} (x : X) (xs ys : List X) (a b : Bool) → (a ≡ true → b ≡ true) → length xs ≤ length ys → length (cond a (x ∷ xs) xs) ≤ length (cond b (x ∷ ys) ys)
+one_more : {X : Type 0} (x : X) (xs ys : List X) (a b : Bool) → (a ≡ true → b ≡ true) → length xs ≤ length ys →
+    length (cond a (x ∷ xs) xs) ≤ length (cond b (x ∷ ys) ys)
 one_more x xs ys true true weaker le = omega arith
 one_more x xs ys true false weaker le = absurd (true≢false (sym (weaker refl)))
 one_more x xs ys false true weaker le = omega arith
 one_more x xs ys false false weaker le = le
 
-keeps_more : {X : Type 0} (p q : X → Bool) → ((x : X) → p x ≡ true → q x ≡ true) → (xs : List X) → length (filter p xs) ≤ length (filter q xs)
+keeps_more : {X : Type 0} (p q : X → Bool) → ((x : X) → p x ≡ true → q x ≡ true) → (xs : List X) →
+    length (filter p xs) ≤ length (filter q xs)
 keeps_more p q weaker [] = omega arith
 keeps_more p q weaker (x ∷ xs) = one_more x (filter p xs) (filter q xs) (p x) (q x) (weaker x) (keeps_more p q weaker xs)
 

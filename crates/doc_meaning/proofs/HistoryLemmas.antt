@@ -10,7 +10,8 @@ use Rattle.doc_meaning.specs.History.{Base, Database, History, after_entries, af
 use Rattle.doc_meaning.specs.Laws.{with_commit}
 
 pub shown_is_the_same : (h : History) (at : ℕ) → merge h ≤ at → at ≤ front h → base_at (shown h) at ≡ database_at h at
-shown_is_the_same h at low high = get_or-map-range_with_len (database_at h) (merge h) (front h + 1 - merge h) (at - merge h) at empty (omega arith) (omega arith)
+shown_is_the_same h at low high = get_or-map-range_with_len (database_at h) (merge h) (front h + 1 - merge h)
+    (at - merge h) at empty (omega arith) (omega arith)
 
 after_entries-append : (at : ℕ) (xs : List Entry) (y : Entry) (db : Database) →
     after_entries at (xs ++ y ∷ []) db ≡ after_entry (at + length xs + 1) y (after_entries at xs db)
@@ -19,14 +20,18 @@ after_entries-append at (x ∷ xs) y db =
     let e : (at + 1) + length xs + 1 ≡ at + length (x ∷ xs) + 1 = omega arith in
     after_entries-append (at + 1) xs y (after_entry (at + 1) x db) ∙ ap (λ n. after_entry n y (after_entries at (x ∷ xs) db)) e
 
-latest_over : (base : Base) (entries : List Entry) → latest (record { base = base; entries = entries }) ≡ after_entries base.front entries (base_at base base.front)
+latest_over : (base : Base) (entries : List Entry) →
+    latest (record { base = base; entries = entries }) ≡ after_entries base.front entries (base_at base base.front)
 latest_over base [] =
     let none : base.front + 0 ≡ base.front = omega arith in
-    ap (λ at. cond (leb at base.front) (base_at base at) (after_entries base.front (take (at - base.front) []) (base_at base base.front))) none
+    ap (λ at. cond (leb at base.front) (base_at base at) (after_entries base.front (take (at - base.front) [])
+    (base_at base base.front))) none
     ∙ cond-true (leb base.front base.front) _ _ (le-leb base.front base.front (omega arith))
 latest_over base (entry ∷ entries) =
-    cond-false (leb (base.front + length (entry ∷ entries)) base.front) _ _ (lt-leb (base.front + length (entry ∷ entries)) base.front (omega arith))
-    ∙ ap (λ es. after_entries base.front es (base_at base base.front)) (take_all (base.front + length (entry ∷ entries) - base.front) (entry ∷ entries) (omega arith))
+    cond-false (leb (base.front + length (entry ∷ entries)) base.front) _ _
+    (lt-leb (base.front + length (entry ∷ entries)) base.front (omega arith))
+    ∙ ap (λ es. after_entries base.front es (base_at base base.front))
+    (take_all (base.front + length (entry ∷ entries) - base.front) (entry ∷ entries) (omega arith))
 
 -- the last database of a history with one more commit
 pub latest_with_commit : (h : History) (ops : List Op) → latest (with_commit h ops) ≡ after_ops (front h + 1) ops (latest h)

@@ -14,10 +14,12 @@ use Rattle.doc_meaning.specs.Meaning.{meaning, meaning_step, sat}
 
 sat_and : (queries : List Query) (d : PlainDocument) → sat (query.And queries) d ≡ list_all (λ q. sat q d) queries
 sat_and queries d =
-    ap (λ q. sat q d) (sym (query.rolls-And queries)) ∙ ap (λ m. m.holds) (fold-roll-Query Meaning (meaning_step d) (Query-F.And queries))
+    ap (λ q. sat q d) (sym (query.rolls-And queries)) ∙
+    ap (λ m. m.holds) (fold-roll-Query Meaning (meaning_step d) (Query-F.And queries))
     ∙ list_all-map (λ m. m.holds) (meaning d) queries
 
 pub and_satisfies_each : AndSatisfiesEach
 and_satisfies_each queries d =
-    let decides = Decides-by_and (λ q. sat q d) (λ q. sat q d ≡ true) (list_all (λ q. sat q d)) (λ q. (λ e. e, λ e. e)) refl (λ _ _. refl) queries in
+    let decides = Decides-by_and (λ q. sat q d) (λ q. sat q d ≡ true) (list_all (λ q. sat q d))
+    (λ q. (λ e. e, λ e. e)) refl (λ _ _. refl) queries in
     (λ holds. decides.0 (sym (sat_and queries d) ∙ holds), λ each. sat_and queries d ∙ decides.1 each)

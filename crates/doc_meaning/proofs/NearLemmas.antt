@@ -16,23 +16,27 @@ use Rattle.doc_meaning.specs.Near.{ChoosesOne, IsNear, choices, is_near, is_risi
 use Rattle.doc_meaning.proofs.AnyLemmas.{any-flat_map, any-map, any_same}
 
 -- some choice passes where, with some number of the first list, some choice of the others does
-any_choice : (p : List ℕ → Bool) (ns : List ℕ) (rest : List (List ℕ)) → list_any p (choices (ns ∷ rest)) ≡ list_any (λ n. list_any (λ chosen. p (n ∷ chosen)) (choices rest)) ns
+any_choice : (p : List ℕ → Bool) (ns : List ℕ) (rest : List (List ℕ)) →
+    list_any p (choices (ns ∷ rest)) ≡ list_any (λ n. list_any (λ chosen. p (n ∷ chosen)) (choices rest)) ns
 any_choice p ns rest =
     any-flat_map p (λ n. map (λ chosen. n ∷ chosen) (choices rest)) ns
     ∙ any_same _ _ (λ n. any-map p (λ chosen. n ∷ chosen) (choices rest)) ns
 
-choice_of : (p : List ℕ → Bool) (children : List (List ℕ)) → list_any p (choices children) ≡ true → (chosen : List ℕ) × ChoosesOne chosen children × (p chosen ≡ true)
+choice_of : (p : List ℕ → Bool) (children : List (List ℕ)) → list_any p (choices children) ≡ true →
+    (chosen : List ℕ) × ChoosesOne chosen children × (p chosen ≡ true)
 choice_of p [] some = ([], tt, or_false (p []) some)
   where
     or_false : (b : Bool) → (b || false) ≡ true → b ≡ true
     or_false true e = refl
     or_false false e = e
 choice_of p (ns ∷ rest) some =
-    let first = Any-from_list_any (λ n. list_any (λ chosen. p (n ∷ chosen)) (choices rest)) ns (sym (any_choice p ns rest) ∙ some) in
+    let first = Any-from_list_any (λ n. list_any (λ chosen. p (n ∷ chosen)) (choices rest)) ns
+    (sym (any_choice p ns rest) ∙ some) in
     let others = choice_of (λ chosen. p (first.1 ∷ chosen)) rest first.4 in
     (first.1 ∷ others.0, ((first.0, first.2, first.3), others.1), others.2)
 
-choice_from : (p : List ℕ → Bool) (children : List (List ℕ)) (chosen : List ℕ) → ChoosesOne chosen children → p chosen ≡ true → list_any p (choices children) ≡ true
+choice_from : (p : List ℕ → Bool) (children : List (List ℕ)) (chosen : List ℕ) → ChoosesOne chosen children →
+    p chosen ≡ true → list_any p (choices children) ≡ true
 choice_from p [] [] one e = ap (λ b. b || false) e
 choice_from p [] (n ∷ chosen) one e = absurd one
 choice_from p (ns ∷ rest) [] one e = absurd one
@@ -46,8 +50,10 @@ IsWithin distance ns = All (λ n. All (λ m. n ≤ m + distance) ns) ns
 
 within_decides : (distance : ℕ) (ns : List ℕ) → Decides (is_within distance ns) (IsWithin distance ns)
 within_decides distance ns =
-    Decides-by_and (λ n. list_all (λ m. leb n (m + distance)) ns) (λ n. All (λ m. n ≤ m + distance) ns) (list_all (λ n. list_all (λ m. leb n (m + distance)) ns))
-    (λ n. Decides-by_and (λ m. leb n (m + distance)) (λ m. n ≤ m + distance) (list_all (λ m. leb n (m + distance))) (λ m. (leb-true n (m + distance), le-leb n (m + distance))) refl (λ _ _. refl) ns)
+    Decides-by_and (λ n. list_all (λ m. leb n (m + distance)) ns) (λ n. All (λ m. n ≤ m + distance) ns)
+    (list_all (λ n. list_all (λ m. leb n (m + distance)) ns))
+    (λ n. Decides-by_and (λ m. leb n (m + distance)) (λ m. n ≤ m + distance) (list_all (λ m. leb n (m + distance)))
+    (λ m. (leb-true n (m + distance), le-leb n (m + distance))) refl (λ _ _. refl) ns)
     refl (λ _ _. refl) ns
 
 rises_from : (ordered rising : Bool) → (ordered ≡ true → rising ≡ true) → (not ordered || rising) ≡ true
@@ -82,7 +88,8 @@ module _ (distance : ℕ) (ordered : Bool) (children : List (List ℕ)) where
 pub near_is_a_choice : NearIsAChoice
 near_is_a_choice distance ordered children = (near_of distance ordered children, near_from distance ordered children)
 
-further : (distance far : ℕ) (ordered : Bool) (children : List (List ℕ)) → distance ≤ far → IsNear distance ordered children → IsNear far ordered children
+further : (distance far : ℕ) (ordered : Bool) (children : List (List ℕ)) → distance ≤ far →
+    IsNear distance ordered children → IsNear far ordered children
 further distance far ordered children le near = record {
   chosen = near.chosen;
   one_each = near.one_each;
@@ -93,10 +100,13 @@ further distance far ordered children le near = record {
 sat_near : (queries : List Query) (distance : ℕ) (ordered : Bool) (d : PlainDocument) →
     sat (query.Near queries distance ordered) d ≡ is_near distance ordered (map (λ m. m.starts) (map (meaning d) queries))
 sat_near queries distance ordered d =
-    ap (λ q. sat q d) (sym (query.rolls-Near queries distance ordered)) ∙ ap (λ m. m.holds) (fold-roll-Query Meaning (meaning_step d) (Query-F.Near queries distance ordered))
+    ap (λ q. sat q d) (sym (query.rolls-Near queries distance ordered)) ∙
+    ap (λ m. m.holds) (fold-roll-Query Meaning (meaning_step d) (Query-F.Near queries distance ordered))
 
 pub near_holds_further : NearHoldsFurther
 near_holds_further queries distance far ordered d le holds =
     let children : List (List ℕ) = map (λ m. m.starts) (map (meaning d) queries) in
     sat_near queries far ordered d
-    ∙ near_from far ordered children (further distance far ordered children le (near_of distance ordered children (sym (sat_near queries distance ordered d) ∙ holds)))
+    ∙ near_from far ordered children
+    (further distance far ordered children le
+    (near_of distance ordered children (sym (sat_near queries distance ordered d) ∙ holds)))

@@ -15,7 +15,8 @@ rises_of (n ∷ m ∷ ns) is zero d lt = ltb-true n m (and_parts (ltb n m) (is_r
 rises_of (n ∷ m ∷ ns) is (suc k) d lt =
     let e : suc k + 1 ≡ suc (k + 1) = omega arith in
     let below : k + 1 < length (m ∷ ns) = omega arith in
-    let later : get_or (m ∷ ns) k d < get_or (m ∷ ns) (k + 1) d = rises_of (m ∷ ns) (and_parts (ltb n m) (is_rising (m ∷ ns)) is).1 k d below in
+    let later : get_or (m ∷ ns) k d < get_or (m ∷ ns) (k + 1) d =
+    rises_of (m ∷ ns) (and_parts (ltb n m) (is_rising (m ∷ ns)) is).1 k d below in
     rw e later
 
 rises_behind : (n : ℕ) (ns : List ℕ) → Rises (n ∷ ns) → Rises ns

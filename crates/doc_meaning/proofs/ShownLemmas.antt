@@ -33,13 +33,20 @@ found_after : (at : ℕ) (op : Op) (db : Database) (uri : List ℕ) (v : Version
     ((v.created ≡ at) × (v.document.uri ≡ uri)) ⊎ (get db uri ≡ Some v)
 found_after at (Put document expect) db uri v is = go (bytes_eq uri document.uri) refl
   where
-    told : get (after_op at (Put document expect) db) uri ≡ cond (bytes_eq uri document.uri) (Some (record { document = document; created = at })) (get db uri)
-    told = get-insert nat_list_cmp_total db document.uri _ uri ∙ ap (λ b. cond b (Some (record { document = document; created = at })) (get db uri)) (is_eq-slice_cmp uri document.uri)
+    told : get (after_op at (Put document expect) db) uri ≡ cond (bytes_eq uri document.uri)
+        (Some (record { document = document; created = at })) (get db uri)
+    told = get-insert nat_list_cmp_total db document.uri _ uri ∙
+        ap (λ b. cond b (Some (record { document = document; created = at })) (get db uri))
+        (is_eq-slice_cmp uri document.uri)
 
     go : (b : Bool) → bytes_eq uri document.uri ≡ b → ((v.created ≡ at) × (v.document.uri ≡ uri)) ⊎ (get db uri ≡ Some v)
     go true e =
         let put : record { document = document; created = at } ≡ v = same_some _ v (sym (told ∙ cond-true _ _ _ e) ∙ is) in
-        inl (sym (ap (λ (w : Version). w.created) put), sym (ap (λ (w : Version). w.document.uri) put) ∙ sym ((bytes_eq-Decides uri document.uri).0 e))
+        inl (
+          sym (ap (λ (w : Version). w.created) put),
+          sym (ap (λ (w : Version). w.document.uri) put) ∙
+              sym ((bytes_eq-Decides uri document.uri).0 e),
+        )
     go false e = inr (sym (told ∙ cond-false _ _ _ e) ∙ is)
 found_after at (Remove removed expect) db uri v is = go (bytes_eq uri removed) refl
   where
@@ -53,9 +60,11 @@ found_after at (Remove removed expect) db uri v is = go (bytes_eq uri removed) r
 found_after_ops : (at : ℕ) (ops : List Op) (db : Database) (uri : List ℕ) (v : Version) → get (after_ops at ops db) uri ≡ Some v →
     ((v.created ≡ at) × (v.document.uri ≡ uri)) ⊎ (get db uri ≡ Some v)
 found_after_ops at [] db uri v is = inr is
-found_after_ops at (op ∷ ops) db uri v is = ⊎_elim (λ put. inl put) (λ was. found_after at op db uri v was) (found_after_ops at ops (after_op at op db) uri v is)
+found_after_ops at (op ∷ ops) db uri v is = ⊎_elim (λ put. inl put) (λ was. found_after at op db uri v was)
+    (found_after_ops at ops (after_op at op db) uri v is)
 
-found_after_entry : (at : ℕ) (entry : Entry) (db : Database) (uri : List ℕ) (v : Version) → get (after_entry at entry db) uri ≡ Some v →
+found_after_entry : (at : ℕ) (entry : Entry) (db : Database) (uri : List ℕ) (v : Version) →
+    get (after_entry at entry db) uri ≡ Some v →
     ((v.created ≡ at) × (v.document.uri ≡ uri)) ⊎ (get db uri ≡ Some v)
 found_after_entry at (Commit ops) db uri v is = found_after_ops at ops db uri v is
 found_after_entry at (Forget to) db uri v is = inr is
@@ -70,7 +79,8 @@ record IsPut (begin : ℕ) (entries : List Entry) (db : Database) (uri : List �
   pub there : get (after_entries begin (take nth entries) db) uri ≡ Some v
 
 -- a version that is found after some entries was there, or one of them created it
-found_after_entries : (begin : ℕ) (entries : List Entry) (db : Database) (uri : List ℕ) (v : Version) → get (after_entries begin entries db) uri ≡ Some v →
+found_after_entries : (begin : ℕ) (entries : List Entry) (db : Database) (uri : List ℕ) (v : Version) →
+    get (after_entries begin entries db) uri ≡ Some v →
     (get db uri ≡ Some v) ⊎ IsPut begin entries db uri v
 found_after_entries begin [] db uri v is = inl is
 found_after_entries begin (entry ∷ entries) db uri v is =
@@ -120,7 +130,8 @@ record IsNew (h : History) (at : ℕ) (uri : List ℕ) (v : Version) : Type 0 wh
   pub there : get (after_entries h.base.front (take nth h.entries) (base_at h.base h.base.front)) uri ≡ Some v
 
 module _ (h : History) where
-  origin : (at : ℕ) (uri : List ℕ) (v : Version) → h.base.merge ≤ h.base.front → h.base.merge ≤ at → get (database_at h at) uri ≡ Some v →
+  origin : (at : ℕ) (uri : List ℕ) (v : Version) → h.base.merge ≤ h.base.front → h.base.merge ≤ at →
+      get (database_at h at) uri ≡ Some v →
       IsOld h at uri v ⊎ IsNew h at uri v
   origin at uri v ordered low is = ⊎_elim
       (λ (old : (leb at h.base.front ≡ true) × (at ≤ h.base.front)). inl (record {
@@ -131,9 +142,16 @@ module _ (h : History) where
         there = ap (λ db. get db uri) (sym (cond-true (leb at h.base.front) (base_at h.base at) later old.0)) ∙ is;
       }))
       (λ (past : (leb at h.base.front ≡ false) × (h.base.front < at)).
-      let found : get later uri ≡ Some v = ap (λ db. get db uri) (sym (cond-false (leb at h.base.front) (base_at h.base at) later past.0)) ∙ is in
+      let found : get later uri ≡ Some v =
+      ap (λ db. get db uri) (sym (cond-false (leb at h.base.front) (base_at h.base at) later past.0)) ∙ is in
       ⊎_elim
-      (λ was. inl (record { from = h.base.front; low = ordered; high = omega arith; before = omega (arith, past.1); there = was }))
+      (λ was. inl (record {
+        from = h.base.front;
+        low = ordered;
+        high = omega arith;
+        before = omega (arith, past.1);
+        there = was;
+      }))
       (λ (put : IsPut h.base.front (take n h.entries) (base_at h.base h.base.front) uri v).
       let within : put.nth ≤ n = omega (arith, put.last, length-take n h.entries) in
       inr (record {
@@ -142,7 +160,8 @@ module _ (h : History) where
         stamp = put.stamp;
         before = omega (arith, past.1);
         key = put.key;
-        there = ap (λ es. get (after_entries h.base.front es (base_at h.base h.base.front)) uri) (sym (take-take put.nth n h.entries within)) ∙ put.there;
+        there = ap (λ es. get (after_entries h.base.front es (base_at h.base h.base.front)) uri)
+            (sym (take-take put.nth n h.entries within)) ∙ put.there;
       }))
       (found_after_entries h.base.front (take n h.entries) (base_at h.base h.base.front) uri v found))
       (leb_tells at h.base.front)
@@ -161,16 +180,22 @@ module _ (h : History) where
     pub same : merge h ≤ at → to ≡ at
     pub there : get (database_at h to) uri ≡ Some v
 
-  shown_at : (at : ℕ) (uri : List ℕ) (v : Version) → merge h ≤ front h → get (base_at (shown h) at) uri ≡ Some v → IsShown at uri v
+  shown_at : (at : ℕ) (uri : List ℕ) (v : Version) → merge h ≤ front h → get (base_at (shown h) at) uri ≡ Some v →
+      IsShown at uri v
   shown_at at uri v ordered is = ⊎_elim
       (λ (past : (leb count i ≡ true) × (count ≤ i)).
-      absurd (none_some v (sym (get-empty (slice_cmp nat_cmp) uri) ∙ ap (λ db. get db uri) (sym (get_or_past (shown h).databases i empty (omega (arith, length-map-range_with_len (database_at h) (merge h) count, past.1)))) ∙ is)))
+      absurd (none_some v (sym (get-empty (slice_cmp nat_cmp) uri) ∙
+      ap (λ db. get db uri)
+      (sym (get_or_past (shown h).databases i empty
+      (omega (arith, length-map-range_with_len (database_at h) (merge h) count, past.1)))) ∙ is)))
       (λ (within : (leb count i ≡ false) × (i < count)). record {
         to = merge h + i;
         low = omega arith;
         high = omega (arith, within.1);
         same = λ le. omega arith;
-        there = ap (λ db. get db uri) (sym (get_or-map-range_with_len (database_at h) (merge h) count i (merge h + i) empty within.1 refl)) ∙ is;
+        there = ap (λ db. get db uri)
+            (sym (get_or-map-range_with_len (database_at h) (merge h) count i (merge h + i) empty within.1 refl)) ∙
+            is;
       })
       (leb_tells count i)
     where
@@ -187,7 +212,8 @@ shown_is_a_base h is = record {
   uris = λ at uri v got. key uri v (found at uri v (shown_at h at uri v in_order.1 got));
   stamps = λ at uri v low high got. stamp at uri v low (shown_at h at uri v in_order.1 got);
   same = λ at to uri v w got other created.
-      alike uri v w (found at uri v (shown_at h at uri v in_order.1 got)) (found to uri w (shown_at h to uri w in_order.1 other)) created;
+      alike uri v w (found at uri v (shown_at h at uri v in_order.1 got))
+      (found to uri w (shown_at h to uri w in_order.1 other)) created;
 }
   where
     in_order : (h.base.merge ≤ merge h) × (merge h ≤ front h)
@@ -197,18 +223,21 @@ shown_is_a_base h is = record {
     found at uri v s = (s.to, origin h s.to uri v is.base.ordered (omega (arith, in_order.0, s.low)) s.there)
 
     key : (uri : List ℕ) (v : Version) → (to : ℕ) × (IsOld h to uri v ⊎ IsNew h to uri v) → v.document.uri ≡ uri
-    key uri v f = ⊎_elim (λ (old : IsOld h f.0 uri v). is.base.uris old.from uri v old.there) (λ (new : IsNew h f.0 uri v). new.key) f.1
+    key uri v f = ⊎_elim (λ (old : IsOld h f.0 uri v). is.base.uris old.from uri v old.there)
+        (λ (new : IsNew h f.0 uri v). new.key) f.1
 
     stamp : (at : ℕ) (uri : List ℕ) (v : Version) → merge h ≤ at → IsShown h at uri v → (1 ≤ v.created) × (v.created ≤ at)
     stamp at uri v low s =
         let to : s.to ≡ at = s.same low in
         ⊎_elim
         (λ (old : IsOld h s.to uri v).
-        let created = is.base.stamps old.from uri v old.low old.high old.there in (created.0, omega (arith, created.1, old.before, to)))
+        let created = is.base.stamps old.from uri v old.low old.high old.there in
+        (created.0, omega (arith, created.1, old.before, to)))
         (λ (new : IsNew h s.to uri v). (omega (arith, new.stamp, new.first), omega (arith, new.stamp, new.before, to)))
         (found at uri v s).1
 
-    alike : (uri : List ℕ) (v w : Version) → (to : ℕ) × (IsOld h to uri v ⊎ IsNew h to uri v) → (to : ℕ) × (IsOld h to uri w ⊎ IsNew h to uri w) →
+    alike : (uri : List ℕ) (v w : Version) → (to : ℕ) × (IsOld h to uri v ⊎ IsNew h to uri v) → (to : ℕ) ×
+        (IsOld h to uri w ⊎ IsNew h to uri w) →
         v.created ≡ w.created → v ≡ w
     alike uri v w f g created = ⊎_elim
         (λ (old : IsOld h f.0 uri v).
@@ -223,6 +252,9 @@ shown_is_a_base h is = record {
         absurd (omega (arith, stamped.1, old.high, new.stamp, new.first, created)))
         (λ (also : IsNew h g.0 uri w).
         let nth : new.nth ≡ also.nth = omega (arith, new.stamp, also.stamp, created) in
-        same_some v w (sym new.there ∙ ap (λ n. get (after_entries h.base.front (take n h.entries) (base_at h.base h.base.front)) uri) nth ∙ also.there))
+        same_some v w
+        (sym new.there ∙
+        ap (λ n. get (after_entries h.base.front (take n h.entries) (base_at h.base h.base.front)) uri) nth ∙
+        also.there))
         g.1)
         f.1

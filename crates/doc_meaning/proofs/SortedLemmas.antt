@@ -46,4 +46,5 @@ module _ {K X : Type 0} (R : K → K → Ordering) (p : K × X → Bool) where
       ]
 
 pub answers_are_sorted : AnswersAreSorted
-answers_are_sorted h at q = kept_sorted (slice_cmp nat_cmp) (λ e. sat q e.1.document) (entries (database_at h at)) (from_T _ (entries_sorted (database_at h at)))
+answers_are_sorted h at q = kept_sorted (slice_cmp nat_cmp) (λ e. sat q e.1.document) (entries (database_at h at))
+    (from_T _ (entries_sorted (database_at h at)))

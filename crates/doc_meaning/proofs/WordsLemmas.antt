@@ -56,7 +56,8 @@ apart at (span ∷ next ∷ rest) h zero d lt = let behind : span.1 + 1 ≤ next
 apart at (span ∷ next ∷ rest) h (suc k) d lt =
     let e : suc k + 1 ≡ suc (k + 1) = omega arith in
     let below : k + 1 < length (next ∷ rest) = omega arith in
-    let later : (get_or (next ∷ rest) k d).1 < (get_or (next ∷ rest) (k + 1) d).0 = apart (span.1 + 1) (next ∷ rest) h.2 k d below in
+    let later : (get_or (next ∷ rest) k d).1 < (get_or (next ∷ rest) (k + 1) d).0 =
+    apart (span.1 + 1) (next ∷ rest) h.2 k d below in
     rw e later
 
 -- the byte lies within the span, and within one of the spans
@@ -66,19 +67,22 @@ covers place span = leb span.0 place && ltb place span.1
 abbrev covered : ℕ → List Span → Bool
 covered place rest = list_any (covers place) rest
 
-split : (place a b c : ℕ) → a ≤ b → b ≤ c → (leb a place && ltb place c) ≡ ((leb a place && ltb place b) || (leb b place && ltb place c))
+split : (place a b c : ℕ) → a ≤ b → b ≤ c →
+    (leb a place && ltb place c) ≡ ((leb a place && ltb place b) || (leb b place && ltb place c))
 split place a b c low high = grind (arith, nat_tests)
 
 or_assoc : (x y z : Bool) → ((x || y) || z) ≡ (x || (y || z))
 or_assoc true y z = refl
 or_assoc false y z = refl
 
-covered_joined : (place from to : ℕ) (rest : List Span) → from < to → Rise to rest → covered place (joined from to rest) ≡ (covers place (from, to) || covered place rest)
+covered_joined : (place from to : ℕ) (rest : List Span) → from < to → Rise to rest →
+    covered place (joined from to rest) ≡ (covers place (from, to) || covered place rest)
 covered_joined place from to [] lt h = refl
 covered_joined place from to (span ∷ rest) lt h = go (eqb to span.0) refl
   where
     go : (b : Bool) → eqb to span.0 ≡ b →
-        covered place (cond b ((from, span.1) ∷ rest) ((from, to) ∷ span ∷ rest)) ≡ (covers place (from, to) || (covers place span || covered place rest))
+        covered place (cond b ((from, span.1) ∷ rest) ((from, to) ∷ span ∷ rest)) ≡
+        (covers place (from, to) || (covers place span || covered place rest))
     go true e =
         let meet : to ≡ span.0 = eqb-true to span.0 e in
         ap (λ b. b || covered place rest) (split place from to span.1 (le_of_lt lt) (le_trans h.0 (le_of_lt h.1)))
@@ -95,7 +99,8 @@ not_before place at (span ∷ rest) lt h =
     or_from _ _ (and_left _ _ (lt-leb span.0 place (omega arith))) (not_before place (span.1 + 1) rest (omega arith) h.2)
 
 -- a byte is within a span where its character is a word character
-exact : (at : ℕ) (before : List ℕ) (c : ℕ) (after : List ℕ) → covered (at + length (encodes before)) (spans at (before ++ c ∷ after)) ≡ is_word_char c
+exact : (at : ℕ) (before : List ℕ) (c : ℕ) (after : List ℕ) →
+    covered (at + length (encodes before)) (spans at (before ++ c ∷ after)) ≡ is_word_char c
 exact at [] c after =
     let next = at + len_utf8 c in
     let here : at + 0 ≡ at = omega arith in
@@ -110,12 +115,15 @@ exact at (b ∷ before) c after =
     let next = at + len_utf8 b in
     let place = next + length (encodes before) in
     let rest = before ++ c ∷ after in
-    let there : at + length (encode b ++ encodes before) ≡ place = omega (arith, length-append (encode b) (encodes before), length-encode b) in
+    let there : at + length (encode b ++ encodes before) ≡ place =
+    omega (arith, length-append (encode b) (encodes before), length-encode b) in
     ap (λ p. covered p (spans at (b ∷ rest))) there
-    ∙ elim (is_word_char b) as (λ w. covered place (cond w (joined at next (spans next rest)) (spans next rest)) ≡ is_word_char c) [
+    ∙ elim (is_word_char b) as (λ w. covered place (cond w (joined at next (spans next rest)) (spans next rest)) ≡
+    is_word_char c) [
       | true ↦
           covered_joined place at next (spans next rest) (wide at b) (spans_rise next rest)
-          ∙ ap (λ x. x || covered place (spans next rest)) (and_right (leb at place) (ltb place next) (le-ltb place next (omega arith)))
+          ∙ ap (λ x. x || covered place (spans next rest))
+          (and_right (leb at place) (ltb place next) (le-ltb place next (omega arith)))
           ∙ exact next before c after
       | false ↦ exact next before c after
     ]
@@ -128,7 +136,8 @@ module _ (text : List ℕ) (utf8 : IsUtf8 text) where
   abbrev HasEdges : Span → Type 0
   HasEdges span = IsEdge text span.0 × IsEdge text span.1
 
-  joined_edges : (from to : ℕ) (rest : List Span) → IsEdge text from → IsEdge text to → All HasEdges rest → All HasEdges (joined from to rest)
+  joined_edges : (from to : ℕ) (rest : List Span) → IsEdge text from → IsEdge text to → All HasEdges rest →
+      All HasEdges (joined from to rest)
   joined_edges from to [] f t h = All-cons HasEdges (from, to) [] (f, t) h
   joined_edges from to (span ∷ rest) f t h =
       elim (eqb to span.0) as (λ b. All HasEdges (cond b ((from, span.1) ∷ rest) ((from, to) ∷ span ∷ rest))) [
@@ -136,13 +145,15 @@ module _ (text : List ℕ) (utf8 : IsUtf8 text) where
         | false ↦ All-cons HasEdges (from, to) (span ∷ rest) (f, t) h
       ]
 
-  spans_edges : (at : ℕ) (before cs : List ℕ) → chars text ≡ before ++ cs → at ≡ length (encodes before) → All HasEdges (spans at cs)
+  spans_edges : (at : ℕ) (before cs : List ℕ) → chars text ≡ before ++ cs → at ≡ length (encodes before) →
+      All HasEdges (spans at cs)
   spans_edges at before [] is from = All-nil HasEdges
   spans_edges at before (c ∷ cs) is from =
       let next = at + len_utf8 c in
       let more : List ℕ = before ++ c ∷ [] in
       let to : next ≡ length (encodes more) =
-      ap (λ n. n + len_utf8 c) from ∙ ap (λ n. length (encodes before) + n) (sym (length-encode c) ∙ ap length (sym (append-nil (encode c))))
+      ap (λ n. n + len_utf8 c) from ∙ ap (λ n. length (encodes before) + n) (sym (length-encode c) ∙
+      ap length (sym (append-nil (encode c))))
       ∙ sym (ap length (encodes-append before (c ∷ [])) ∙ length-append (encodes before) (encodes (c ∷ []))) in
       let then : chars text ≡ more ++ cs = is ∙ sym (append_assoc before (c ∷ []) cs) in
       let rest : All HasEdges (spans next cs) = spans_edges next more cs then to in
@@ -154,7 +165,8 @@ module _ (text : List ℕ) (utf8 : IsUtf8 text) where
   stands : (place c : ℕ) → StandsAt text place c → covered place (spans 0 (chars text)) ≡ is_word_char c
   stands place c at =
       let whole : 0 + length (encodes at.0) ≡ place = omega (arith, at.3) in
-      ap (λ cs. covered place (spans 0 cs)) at.2 ∙ ap (λ p. covered p (spans 0 (at.0 ++ c ∷ at.1))) (sym whole) ∙ exact 0 at.0 c at.1
+      ap (λ cs. covered place (spans 0 cs)) at.2 ∙ ap (λ p. covered p (spans 0 (at.0 ++ c ∷ at.1))) (sym whole) ∙
+      exact 0 at.0 c at.1
 
 some_covers : (place : ℕ) (rest : List Span) → covered place rest ≡ true → Any (Covers place) rest
 some_covers place rest is =

@@ -73,7 +73,8 @@ module _ (d : PlainDocument) where
   bounds_step (Query-F.And queries) = record { sure = list_all (λ b. b.sure) queries; maybe = list_all (λ b. b.maybe) queries }
   bounds_step (Query-F.Or queries) = any_bound queries
   bounds_step (Query-F.Not query) = record { sure = not query.maybe; maybe = not query.sure }
-  bounds_step (Query-F.AndNot positive negative) = record { sure = positive.sure && not negative.maybe; maybe = positive.maybe && not negative.sure }
+  bounds_step (Query-F.AndNot positive negative) =
+      record { sure = positive.sure && not negative.maybe; maybe = positive.maybe && not negative.sure }
   bounds_step (Query-F.Word texts case) = any_bound (map (text_bounds (strings d.root) case) texts)
   bounds_step (Query-F.PropWord names texts case) =
       any_bound (map (λ name. any_bound (map (λ text. prop_text_bounds (strings d.root) case text name) texts)) names)

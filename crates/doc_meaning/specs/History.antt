@@ -109,14 +109,17 @@ pub record IsBase (base : Base) : Type 0 where
   pub ordered : base.merge ≤ base.front
   pub each : length base.databases ≡ base.front + 1 - base.merge
   pub uris : (at : ℕ) (uri : List ℕ) (v : Version) → get (base_at base at) uri ≡ Some v → v.document.uri ≡ uri
-  pub stamps : (at : ℕ) (uri : List ℕ) (v : Version) → base.merge ≤ at → at ≤ base.front → get (base_at base at) uri ≡ Some v → (1 ≤ v.created) × (v.created ≤ at)
-  pub same : (at to : ℕ) (uri : List ℕ) (v w : Version) → get (base_at base at) uri ≡ Some v → get (base_at base to) uri ≡ Some w → v.created ≡ w.created → v ≡ w
+  pub stamps : (at : ℕ) (uri : List ℕ) (v : Version) → base.merge ≤ at → at ≤ base.front →
+      get (base_at base at) uri ≡ Some v → (1 ≤ v.created) × (v.created ≤ at)
+  pub same : (at to : ℕ) (uri : List ℕ) (v w : Version) → get (base_at base at) uri ≡ Some v →
+      get (base_at base to) uri ≡ Some w → v.created ≡ w.created → v ≡ w
 
 -- entries that may follow a front and a merge timestamp: each commit has operations of distinct URIs, and each forget
 -- names a timestamp from the merge timestamp to the front
 abbrev pub AreEntries : ℕ → ℕ → List Entry → Type 0
 AreEntries front merge [] = Unit {0}
-AreEntries front merge (Commit ops ∷ entries) = AreOps ops × IsTrue (is_distinct (map uri_of ops)) × AreEntries (front + 1) merge entries
+AreEntries front merge (Commit ops ∷ entries) =
+    AreOps ops × IsTrue (is_distinct (map uri_of ops)) × AreEntries (front + 1) merge entries
 AreEntries front merge (Forget to ∷ entries) = (merge ≤ to) × (to ≤ front) × AreEntries (front + 1) to entries
 
 -- a history that may come about
@@ -126,7 +129,8 @@ pub record IsHistory (h : History) : Type 0 where
 
 -- the commit at a timestamp puts this version
 abbrev pub PutsVersion : ℕ → Entry → Version → Type 0
-PutsVersion at (Commit ops) v = (k : ℕ) × (expect : Option ℕ) × (slice_get ops k ≡ Some (Put v.document expect)) × (v.created ≡ at)
+PutsVersion at (Commit ops) v = (k : ℕ) × (expect : Option ℕ) × (slice_get ops k ≡ Some (Put v.document expect)) ×
+    (v.created ≡ at)
 PutsVersion at (Forget to) v = ⊥
 
 -- a version that the base has, or that an entry puts

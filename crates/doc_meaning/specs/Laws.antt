@@ -42,7 +42,8 @@ AndSatisfiesEach = (queries : List Query) (d : PlainDocument) → IsTrue (sat (A
 
 -- near is a choice of one start per child
 abbrev pub NearIsAChoice : Type 0
-NearIsAChoice = (distance : ℕ) (ordered : Bool) (children : List (List ℕ)) → IsTrue (is_near distance ordered children) ↔ IsNear distance ordered children
+NearIsAChoice = (distance : ℕ) (ordered : Bool) (children : List (List ℕ)) →
+    IsTrue (is_near distance ordered children) ↔ IsNear distance ordered children
 
 -- numbers rise where each is below the next
 abbrev pub RisingRises : Type 0
@@ -55,15 +56,18 @@ NearHoldsFurther = (queries : List Query) (distance further : ℕ) (ordered : Bo
 
 -- a document that passes the first test of a query that breaks no rule satisfies it
 abbrev pub SureSatisfies : Type 0
-SureSatisfies = (q : Query) (indexes : List Index) (d : PlainDocument) → broken_query_rule q indexes ≡ None → IsTrue (sure q d) → IsTrue (sat q d)
+SureSatisfies = (q : Query) (indexes : List Index) (d : PlainDocument) → broken_query_rule q indexes ≡ None →
+    IsTrue (sure q d) → IsTrue (sat q d)
 
 -- a document that satisfies a query that breaks no rule passes the second test
 abbrev pub SatisfiesMaybe : Type 0
-SatisfiesMaybe = (q : Query) (indexes : List Index) (d : PlainDocument) → broken_query_rule q indexes ≡ None → IsTrue (sat q d) → IsTrue (maybe q d)
+SatisfiesMaybe = (q : Query) (indexes : List Index) (d : PlainDocument) → broken_query_rule q indexes ≡ None →
+    IsTrue (sat q d) → IsTrue (maybe q d)
 
 -- no fewer are estimated than answered
 abbrev pub EstimateIsNoLess : Type 0
-EstimateIsNoLess = (h : History) (at : ℕ) (q : Query) (indexes : List Index) → broken_query_rule q indexes ≡ None → length (answer h at q) ≤ estimate h at q
+EstimateIsNoLess = (h : History) (at : ℕ) (q : Query) (indexes : List Index) → broken_query_rule q indexes ≡ None →
+    length (answer h at q) ≤ estimate h at q
 
 -- the history with one more commit
 abbrev pub with_commit : History → List Op → History
@@ -88,7 +92,8 @@ OthersStay = (h : History) (ops : List Op) (uri : List ℕ) → is_among (map ur
 
 -- what is shown of a history has its front, merge timestamp and settings, and its databases from the one to the other
 abbrev pub ShownIsTheSame : Type 0
-ShownIsTheSame = (h : History) → ((shown h).front ≡ front h) × ((shown h).merge ≡ merge h) × ((shown h).settings ≡ h.base.settings)
+ShownIsTheSame = (h : History) → ((shown h).front ≡ front h) × ((shown h).merge ≡ merge h) ×
+    ((shown h).settings ≡ h.base.settings)
     × ((at : ℕ) → merge h ≤ at → at ≤ front h → base_at (shown h) at ≡ database_at h at)
 
 -- what is shown of a history is a base again

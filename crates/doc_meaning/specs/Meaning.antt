@@ -64,7 +64,8 @@ module _ (d : PlainDocument) where
   -- whether a query holds and where it starts, from what its children say
   abbrev pub meaning_step : Query-F Meaning → Meaning
   meaning_step (Query-F.And queries) = plainly (list_all (λ q. q.holds) queries)
-  meaning_step (Query-F.Or queries) = record { holds = list_any (λ q. q.holds) queries; starts = flat_map (λ q. q.starts) queries }
+  meaning_step (Query-F.Or queries) =
+      record { holds = list_any (λ q. q.holds) queries; starts = flat_map (λ q. q.starts) queries }
   meaning_step (Query-F.Not query) = plainly (not query.holds)
   meaning_step (Query-F.AndNot positive negative) = plainly (positive.holds && not negative.holds)
   meaning_step (Query-F.Word texts case) = from_starts (word_starts (strings d.root) texts case None)

@@ -19,7 +19,8 @@ is_within distance ns = list_all (λ n. list_all (λ m. nat_le n (m + distance))
 
 -- one start of each child can be chosen so that they are within the distance, and rise where that is asked
 unfoldable pub is_near : ℕ → Bool → List (List ℕ) → Bool
-is_near distance ordered children = list_any (λ chosen. is_within distance chosen && (not ordered || is_rising chosen)) (choices children)
+is_near distance ordered children =
+    list_any (λ chosen. is_within distance chosen && (not ordered || is_rising chosen)) (choices children)
 
 -- the chosen numbers are one of each list
 abbrev pub ChoosesOne : List ℕ → List (List ℕ) → Type 0

@@ -5,7 +5,8 @@ use Rattle.doc_meaning.specs.Words.{Span, is_word_char}
 
 -- a character begins at this byte of the text
 abbrev pub StandsAt : List ℕ → ℕ → ℕ → Type 0
-StandsAt text place c = (before : List ℕ) × (after : List ℕ) × (chars text ≡ before ++ c ∷ after) × (place ≡ length (encode_utf8_all before))
+StandsAt text place c = (before : List ℕ) × (after : List ℕ) × (chars text ≡ before ++ c ∷ after) ×
+    (place ≡ length (encode_utf8_all before))
 
 -- the byte lies within the span
 abbrev pub Covers : ℕ → Span → Type 0

@@ -20,7 +20,8 @@ document_of uri collections root = record { uri = uri; collections = collections
 -- it is stored as the tuple of its parts
 abbrev pub document_code : Coded PlainDocument
 document_code =
-    code_by (List ℕ × (List (List ℕ) × Node)) (coded× (coded_list coded_ℕ) (coded× (coded_list (coded_list coded_ℕ)) node.the_row.coded))
+    code_by (List ℕ × (List (List ℕ) × Node))
+    (coded× (coded_list coded_ℕ) (coded× (coded_list (coded_list coded_ℕ)) node.the_row.coded))
     (λ d. (d.uri, (d.collections, d.root))) (λ p. record { uri = p.0; collections = p.1.0; root = p.1.1 }) (λ _. refl)
 
 -- the nodes of a document, and the bytes of its texts, names, URI and collections

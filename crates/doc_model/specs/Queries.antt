@@ -103,7 +103,8 @@ may_be_near_step _ = false
 
 -- the children of each near may be, in it and in its children
 abbrev pub near_fits_step : Query-F NearFit → Bool
-near_fits_step (Query-F.Near queries distance ordered) = list_all (λ child. child.may_be_near) queries && list_all (λ child. child.fits) queries
+near_fits_step (Query-F.Near queries distance ordered) =
+    list_all (λ child. child.may_be_near) queries && list_all (λ child. child.fits) queries
 near_fits_step q = list_all (λ child. child.fits) (children q)
 
 -- both of a query, from those of its children
@@ -169,4 +170,5 @@ RefusesQuery q indexes why = (why ≡ rule.Memory) ⊎ (broken_query_rule q inde
 
 -- the same of all of some queries
 abbrev pub near_fit_of_all : List Query → NearFit
-near_fit_of_all qs = record { may_be_near = list_all (λ q. (near_fit q).may_be_near) qs; fits = list_all (λ q. (near_fit q).fits) qs }
+near_fit_of_all qs =
+    record { may_be_near = list_all (λ q. (near_fit q).may_be_near) qs; fits = list_all (λ q. (near_fit q).fits) qs }

@@ -17,7 +17,8 @@ back_more g xs n y lt =
     ap (λ j. map g (take j (slice_set xs n y))) next ∙ (ap (map g) (take-suc-set xs n y lt) ∙ map_last g (take n xs) y)
 
 -- a seat that isn't filled is within
-pub room : {R W : Type 0} (seats : List (Seat R W)) (n : ℕ) → length (seated seats n).back < length (seated seats n).out → n < length seats
+pub room : {R W : Type 0} (seats : List (Seat R W)) (n : ℕ) →
+    length (seated seats n).back < length (seated seats n).out → n < length seats
 room seats n lt = omega (arith, simp (length-map, length-take) at lt)
 
 -- the first seat without a return is given this one

@@ -119,7 +119,8 @@ put_reads before bytes fits =
     go (Ok u) e r =
         weaken document (λ d. IsRead u.0 d × (small before d ≡ true)) (IsPut before) bytes
         (keeping (small before) document_at bytes)
-        (keeping_reads document (IsRead u.0) (small before) document_at bytes (document_reads bytes u fits (uri_is (map uri_of before) bytes u e)))
+        (keeping_reads document (IsRead u.0) (small before) document_at bytes
+        (document_reads bytes u fits (uri_is (map uri_of before) bytes u e)))
         (λ d h.
         let sizes : sum_by op_size before + document_size d ≤ 2 ^ 24 =
         leb-true (sum_by op_size before + document_size d) (2 ^ 24) h.1 in

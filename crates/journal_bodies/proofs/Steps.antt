@@ -102,7 +102,8 @@ short_text_reads bytes fits =
 pub long_reads : (bytes : List ℕ) → IsBytes bytes → Reads long (λ n. n < 2 ^ 64) bytes (long_at bytes)
 unfolding long long_at
 long_reads bytes fits =
-    from_takes long (λ n. n < 2 ^ 64) bytes (wide_at 8 bytes) (λ x e. wide_takes 8 bytes x fits e) (wide_forward 8 [] bytes).within
+    from_takes long (λ n. n < 2 ^ 64) bytes (wide_at 8 bytes) (λ x e. wide_takes 8 bytes x fits e)
+    (wide_forward 8 [] bytes).within
 
 abbrev pub byte : ℕ → List ℕ
 byte b = b ∷ []

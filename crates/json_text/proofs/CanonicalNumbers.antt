@@ -45,12 +45,14 @@ more_digits n ds le t =
     let some : 0 < n / 10 = omega arith in
     let (first, others, are, ne) = t.lead some in
     let one : list_all is_digit (d ∷ []) ≡ true = rw (digit_is (n % 10) lt) refl in
-    let all : list_all is_digit (ds ++ d ∷ []) ≡ true = list_all-append is_digit ds (d ∷ []) ∙ and_from (list_all is_digit ds) (list_all is_digit (d ∷ [])) t.digits one in
+    let all : list_all is_digit (ds ++ d ∷ []) ≡ true = list_all-append is_digit ds (d ∷ []) ∙
+    and_from (list_all is_digit ds) (list_all is_digit (d ∷ [])) t.digits one in
     let written : ds ++ d ∷ [] ≡ first ∷ (others ++ d ∷ []) = ap (λ (x : List ℕ). x ++ d ∷ []) are in
     record {
       digits = all;
       value = fold-append (λ k b. k * 10 + (b - 48)) 0 ds (d ∷ []) ∙ ap (λ (k : ℕ). k * 10 + (d - 48)) t.value ∙ last_digit n;
-      int = subst (λ (x : List ℕ). is_int x ≡ true) (sym written) (long_int first others d ne (subst (λ (x : List ℕ). list_all is_digit x ≡ true) written all));
+      int = subst (λ (x : List ℕ). is_int x ≡ true) (sym written)
+          (long_int first others d ne (subst (λ (x : List ℕ). list_all is_digit x ≡ true) written all));
       lead = λ z. (first, others ++ d ∷ [], written, ne);
     }
   where
@@ -103,7 +105,8 @@ more_places k w r f lt t =
           ∙ ap (λ (x : ℕ). w * x + r) (sym (next_power k));
     }
 
-places_by : (k w r : ℕ) (t : Bool) → (r == 0) ≡ t → PlacesText (suc k) w r (cond t [] ((48 + r / 10 ^ k) ∷ places_text k (r % 10 ^ k))) →
+places_by : (k w r : ℕ) (t : Bool) → (r == 0) ≡ t →
+    PlacesText (suc k) w r (cond t [] ((48 + r / 10 ^ k) ∷ places_text k (r % 10 ^ k))) →
     PlacesText (suc k) w r (places_text (suc k) r)
 unfolding places_text
 places_by k w r t e p = rw e p
@@ -118,7 +121,8 @@ places_are : (k w r : ℕ) → r < 10 ^ k → PlacesText k w r (places_text k r)
 unfolding places_text
 places_are zero w r lt = no_places_left zero w r (omega arith)
 places_are (suc k) w r lt =
-    by (r == 0) refl (more_places k w r (places_text k (r % 10 ^ k)) lt (places_are k (w * 10 + r / 10 ^ k) (r % 10 ^ k) (let some = ten_positive k in omega arith)))
+    by (r == 0) refl (more_places k w r (places_text k (r % 10 ^ k)) lt
+    (places_are k (w * 10 + r / 10 ^ k) (r % 10 ^ k) (let some = ten_positive k in omega arith)))
   where
     by : (t : Bool) → (r == 0) ≡ t → PlacesText (suc k) w r ((48 + r / 10 ^ k) ∷ places_text k (r % 10 ^ k)) →
         PlacesText (suc k) w r (places_text (suc k) r)
@@ -150,10 +154,12 @@ magnitude_is n lt =
     let f = places_text 18 r in
     let t = decimal_text w (omega arith) in
     let p = places_are 18 w r (omega arith) in
-    let value : digits_value (decimal w ++ f) ≡ digits_from w f = fold-append (λ k b. k * 10 + (b - 48)) 0 (decimal w) f ∙ ap (λ (k : ℕ). digits_from k f) t.value in
+    let value : digits_value (decimal w ++ f) ≡ digits_from w f =
+    fold-append (λ k b. k * 10 + (b - 48)) 0 (decimal w) f ∙ ap (λ (k : ℕ). digits_from k f) t.value in
     let n_is : w * 10 ^ 18 + r ≡ n = omega arith in
     let top : digits_value (decimal w ++ f) * 10 ^ 18 ≡ n * 10 ^ length f =
-    ap (λ (v : ℕ). v * 10 ^ 18) value ∙ scaled_up (digits_from w f) (length f) p.short ∙ ap (λ (v : ℕ). v * 10 ^ length f) (p.value ∙ n_is) in
+    ap (λ (v : ℕ). v * 10 ^ 18) value ∙ scaled_up (digits_from w f) (length f) p.short ∙
+    ap (λ (v : ℕ). v * 10 ^ length f) (p.value ∙ n_is) in
     units_by n (digits_value (decimal w ++ f) * 10 ^ 18) (length f) (length f + 0) lt top (omega arith)
 
 number_is : (minus : Bool) (n : ℕ) → n < 10 ^ 38 → IsNumber (cond minus (45 ∷ []) [] ++ magnitude_text n) (Some (signed minus n))
@@ -162,9 +168,22 @@ number_is minus n lt =
     let r = n % 10 ^ 18 in
     let t = decimal_text w (omega arith) in
     let p = places_are 18 w r (omega arith) in
-    let l : Literal = record { minus = minus; whole = decimal w; fraction = places_text 18 r; letter = 101; sign = []; exponent = [] } in
-    let ok : IsLiteral l = record { whole = t.int; fraction = p.digits; letter = refl; sign = refl; exponent = refl } in
-    (l, ok, ap (λ (x : List ℕ). cond minus (45 ∷ []) [] ++ (decimal w ++ x)) (point_is r) ∙ regroup (cond minus (45 ∷ []) []) (decimal w) (fraction_text (places_text 18 r)), ap (λ (o : Option ℕ). with_sign minus o) (sym (magnitude_is n lt)))
+    let l : Literal = record {
+      minus = minus;
+      whole = decimal w;
+      fraction = places_text 18 r;
+      letter = 101;
+      sign = [];
+      exponent = [];
+    } in
+    let ok : IsLiteral l = record { whole = t.int; fraction = p.digits; letter = refl; sign = refl; exponent = refl } in (
+      l,
+      ok,
+      ap (λ (x : List ℕ). cond minus (45 ∷ []) [] ++ (decimal w ++ x)) (point_is r) ∙
+          regroup (cond minus (45 ∷ []) []) (decimal w) (fraction_text (places_text 18 r)),
+      ap
+          (λ (o : Option ℕ). with_sign minus o) (sym (magnitude_is n lt)),
+    )
   where
     regroup : (a b c : List ℕ) → a ++ (b ++ c) ≡ a ++ b ++ c ++ []
     regroup a b c = simp (append_assoc, append-nil)

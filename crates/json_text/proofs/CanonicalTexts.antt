@@ -23,7 +23,8 @@ pub record Spelling (c : ℕ) (text : List ℕ) : Type 0 where
 -- ---- control characters
 
 code_fits : ℕ → Bool
-code_fits c = is_char (unit 48 48 (low_hex (c / 16)) (low_hex (c % 16))) && (unit_value 48 48 (low_hex (c / 16)) (low_hex (c % 16)) == c)
+code_fits c = is_char (unit 48 48 (low_hex (c / 16)) (low_hex (c % 16))) &&
+    (unit_value 48 48 (low_hex (c / 16)) (low_hex (c % 16)) == c)
 
 codes_fit : (c : ℕ) → c < 32 → code_fits c ≡ true
 unfolding code_fits
@@ -51,7 +52,8 @@ control_spelled c lt =
       spelled = unit 48 48 a b ∷ [];
       are = rw p.0 refl;
       written = refl;
-      means = λ others. unit_means 48 48 a b others (ap (λ (u : ℕ). is_high u) same ∙ no_high c lt) (ap (λ (u : ℕ). is_low u) same ∙ no_low c lt) ∙ ap (λ (u : ℕ). after (encode_utf8 u) (text_of others)) same;
+      means = λ others. unit_means 48 48 a b others (ap (λ (u : ℕ). is_high u) same ∙ no_high c lt)
+          (ap (λ (u : ℕ). is_low u) same ∙ no_low c lt) ∙ ap (λ (u : ℕ). after (encode_utf8 u) (text_of others)) same;
     }
 
 -- ---- characters as they are
@@ -62,17 +64,20 @@ high_plain b le = grind arith
 low_plain : (b : ℕ) → 32 ≤ b → b ≢ 34 → b ≢ 92 → is_plain b ≡ true
 low_plain b le q s = rw (le-leb 32 b le, ne_eqb b 34 q, ne_eqb b 92 s) refl
 
-byte_plain : (c : ℕ) → 32 ≤ c → c ≢ 34 → c ≢ 92 → (k : ℕ) → k < length (encode_utf8 c) → is_plain (get_or (encode_utf8 c) k 0) ≡ true
+byte_plain : (c : ℕ) → 32 ≤ c → c ≢ 34 → c ≢ 92 → (k : ℕ) → k < length (encode_utf8 c) →
+    is_plain (get_or (encode_utf8 c) k 0) ≡ true
 byte_plain c le q s k lt =
     elim (cases_lt (get_or (encode_utf8 c) k 0) 128) [
-      | inl small ↦ subst (λ (b : ℕ). is_plain b ≡ true) (inside_one c [] (encode_utf8 c) k (sym (append-nil (encode_utf8 c))) lt small) (low_plain c le q s)
+      | inl small ↦ subst (λ (b : ℕ). is_plain b ≡ true)
+          (inside_one c [] (encode_utf8 c) k (sym (append-nil (encode_utf8 c))) lt small) (low_plain c le q s)
       | inr large ↦ high_plain (get_or (encode_utf8 c) k 0) large
     ]
 
 plain_spelled : (c : ℕ) → 32 ≤ c → c ≢ 34 → c ≢ 92 → Spelling c (encode_utf8 c)
 plain_spelled c le q s = record {
   spelled = map plain (encode_utf8 c);
-  are = run_all (encode_utf8 c) ∙ list_all-from_AllPass is_plain (encode_utf8 c) (λ k d lt. ap (λ (b : ℕ). is_plain b) (get_or_default (encode_utf8 c) k d 0 lt) ∙ byte_plain c le q s k lt);
+  are = run_all (encode_utf8 c) ∙ list_all-from_AllPass is_plain (encode_utf8 c)
+      (λ k d lt. ap (λ (b : ℕ). is_plain b) (get_or_default (encode_utf8 c) k d 0 lt) ∙ byte_plain c le q s k lt);
   written = sym (run_text (encode_utf8 c));
   means = run_means (encode_utf8 c);
 }
@@ -95,7 +100,8 @@ short_spelled c b e lt = record {
   means = λ others. rw e (ap (λ (x : List ℕ). after x (text_of others)) (sym (encode_ascii c lt)));
 }
 
-either : (c k : ℕ) (text rest : List ℕ) (t : Bool) → (c == k) ≡ t → Spelling k text → (c ≢ k → Spelling c rest) → Spelling c (cond t text rest)
+either : (c k : ℕ) (text rest : List ℕ) (t : Bool) → (c == k) ≡ t → Spelling k text → (c ≢ k → Spelling c rest) →
+    Spelling c (cond t text rest)
 either c k text rest true e here other = subst (λ (x : ℕ). Spelling x text) (sym (eqb-true c k e)) here
 either c k text rest false e here other = other (eqb-false c k e)
 
@@ -125,13 +131,20 @@ all_spelled (c ∷ cs) =
     let t = all_spelled cs in
     record {
       spelled = s.spelled ++ t.spelled;
-      are = list_all-append is_char s.spelled t.spelled ∙ and_from (list_all is_char s.spelled) (list_all is_char t.spelled) s.are t.are;
-      written = ap (λ (x : List ℕ). x ++ flat_map escaped cs) s.written ∙ ap (λ (x : List ℕ). flat_map char_text s.spelled ++ x) t.written ∙ sym (flat_map-append char_text s.spelled t.spelled);
+      are = list_all-append is_char s.spelled t.spelled ∙ and_from (list_all is_char s.spelled)
+          (list_all is_char t.spelled) s.are t.are;
+      written = ap (λ (x : List ℕ). x ++ flat_map escaped cs) s.written ∙
+          ap (λ (x : List ℕ). flat_map char_text s.spelled ++ x) t.written ∙
+          sym (flat_map-append char_text s.spelled t.spelled);
       means = s.means t.spelled ∙ ap (λ (o : Option (List ℕ)). after (encode_utf8 c) o) t.means;
     }
 
 -- a text is spelled as its string
 pub quoted_is : (text : List ℕ) → IsUtf8 text → IsString (quoted text) (Some text)
 quoted_is text u =
-    let s = all_spelled (chars text) in
-    (s.spelled, s.are, ap (λ (x : List ℕ). 34 ∷ (x ++ 34 ∷ [])) s.written, sym (s.means ∙ ap (λ (x : List ℕ). Some x) (encodes-chars text u)))
+    let s = all_spelled (chars text) in (
+      s.spelled,
+      s.are,
+      ap (λ (x : List ℕ). 34 ∷ (x ++ 34 ∷ [])) s.written,
+      sym (s.means ∙ ap (λ (x : List ℕ). Some x) (encodes-chars text u)),
+    )

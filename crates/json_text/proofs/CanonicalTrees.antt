@@ -32,13 +32,15 @@ map-map f g (x ∷ xs) = ap (λ rest. f (g x) ∷ rest) (map-map f g xs)
 -- ---- what holds of a node, from what stands in it
 
 pub values_items : (list : List Node) → has_values (node.Items list) ≡ list_all has_values list
-values_items list = ap has_values (sym (node.rolls-Items list)) ∙ fold-roll-Node Bool values_step (Node-F.Items list) ∙ list_all-map (λ item. item) has_values list
+values_items list = ap has_values (sym (node.rolls-Items list)) ∙ fold-roll-Node Bool values_step
+    (Node-F.Items list) ∙ list_all-map (λ item. item) has_values list
 
 abbrev valued : Member → List ℕ × Bool
 valued m = (m.0, has_values m.1)
 
 pub values_members : (list : List Member) → has_values (node.Members list) ≡ list_all (λ m. is_utf8 m.0 && has_values m.1) list
-values_members list = ap has_values (sym (node.rolls-Members list)) ∙ fold-roll-Node Bool values_step (Node-F.Members list) ∙ list_all-map (λ (m : List ℕ × Bool). is_utf8 m.0 && m.1) valued list
+values_members list = ap has_values (sym (node.rolls-Members list)) ∙ fold-roll-Node Bool values_step
+    (Node-F.Members list) ∙ list_all-map (λ (m : List ℕ × Bool). is_utf8 m.0 && m.1) valued list
 
 values_number : (units : ℤ) → has_values (node.Num units) ≡ is_decimal units
 values_number units = ap has_values (sym (node.rolls-Num units)) ∙ fold-roll-Node Bool values_step (Node-F.Num units)
@@ -54,7 +56,8 @@ depth_members list = ap depth (sym (node.rolls-Members list)) ∙ fold-roll-Node
     ∙ ap (λ ds. 1 + greatest ds) (map-map (λ (m : List ℕ × ℕ). m.1) (λ (m : Member). (m.0, depth m.1)) list)
 
 names_items : (list : List Node) → has_distinct_names (node.Items list) ≡ list_all has_distinct_names list
-names_items list = ap has_distinct_names (sym (node.rolls-Items list)) ∙ fold-roll-Node Bool names_step (Node-F.Items list) ∙ list_all-map (λ item. item) has_distinct_names list
+names_items list = ap has_distinct_names (sym (node.rolls-Items list)) ∙ fold-roll-Node Bool names_step
+    (Node-F.Items list) ∙ list_all-map (λ item. item) has_distinct_names list
 
 names : List Member → List (List ℕ)
 names list = map (λ m. m.0) list
@@ -62,8 +65,11 @@ names list = map (λ m. m.0) list
 names_members : (list : List Member) →
     has_distinct_names (node.Members list) ≡ (is_distinct (map (λ m. m.0) list) && list_all (λ m. has_distinct_names m.1) list)
 names_members list = ap has_distinct_names (sym (node.rolls-Members list)) ∙ fold-roll-Node Bool names_step (Node-F.Members list)
-    ∙ ap (λ ns. is_distinct ns && list_all (λ (m : List ℕ × Bool). m.1) (map (λ (m : Member). (m.0, has_distinct_names m.1)) list)) (map-map (λ (m : List ℕ × Bool). m.0) (λ (m : Member). (m.0, has_distinct_names m.1)) list)
-    ∙ ap (λ b. is_distinct (map (λ (m : Member). m.0) list) && b) (list_all-map (λ (m : List ℕ × Bool). m.1) (λ (m : Member). (m.0, has_distinct_names m.1)) list)
+    ∙ ap (λ ns. is_distinct ns && list_all (λ (m : List ℕ × Bool). m.1)
+    (map (λ (m : Member). (m.0, has_distinct_names m.1)) list))
+    (map-map (λ (m : List ℕ × Bool). m.0) (λ (m : Member). (m.0, has_distinct_names m.1)) list)
+    ∙ ap (λ b. is_distinct (map (λ (m : Member). m.0) list) && b)
+    (list_all-map (λ (m : List ℕ × Bool). m.1) (λ (m : Member). (m.0, has_distinct_names m.1)) list)
 
 -- ---- the last values of distinct names are all
 
@@ -81,19 +87,24 @@ neither false false e = (refl, refl)
 neither false true e = absurd cc
 neither true b e = absurd cc
 
-fresh_more : (before : List Member) (m : Member) (ms : List Member) → is_among (map (λ k. k.0) ms) m.0 ≡ false → AllFresh before ms →
+fresh_more : (before : List Member) (m : Member) (ms : List Member) → is_among (map (λ k. k.0) ms) m.0 ≡ false →
+    AllFresh before ms →
     AllFresh (before ++ m ∷ []) ms
 unfolding AllFresh
 fresh_more before m [] e f = tt
 fresh_more before m (k ∷ ms) e f =
-    let p = neither (bytes_eq m.0 k.0) (list_any (bytes_eq m.0) (map (λ j. j.0) ms)) e in
-    (place_behind before m k.0 ∙ ap (λ (o : Option ℕ). or_at o (cond (bytes_eq m.0 k.0) (Some (length before)) None)) f.0 ∙ ap (λ (b : Bool). or_at None (cond b (Some (length before)) None)) p.0, fresh_more before m ms p.1 f.1)
+    let p = neither (bytes_eq m.0 k.0) (list_any (bytes_eq m.0) (map (λ j. j.0) ms)) e in (
+      place_behind before m k.0 ∙ ap (λ (o : Option ℕ). or_at o (cond (bytes_eq m.0 k.0) (Some (length before)) None))
+          f.0 ∙ ap (λ (b : Bool). or_at None (cond b (Some (length before)) None)) p.0,
+      fresh_more before m ms p.1 f.1,
+    )
 
 not_true : (b : Bool) → not b ≡ true → b ≡ false
 not_true false e = refl
 not_true true e = absurd cc
 
-all_kept : (list before : List Member) → AllFresh before list → is_distinct (map (λ m. m.0) list) ≡ true → fold put before list ≡ before ++ list
+all_kept : (list before : List Member) → AllFresh before list → is_distinct (map (λ m. m.0) list) ≡ true →
+    fold put before list ≡ before ++ list
 unfolding AllFresh
 all_kept [] before f d = sym (append-nil before)
 all_kept (m ∷ ms) before f d =
@@ -122,7 +133,8 @@ scalar_value (suc depths) text v is = inl is
 
 null_written : (depths : ℕ) → IsWritten depths node.Null
 unfolding IsWritten
-null_written depths w = scalar_value depths (node_text node.Null) node.Null (inl (ap node_text (sym node.rolls-Null) ∙ fold-roll-Node (List ℕ) node_step Node-F.Null, refl))
+null_written depths w = scalar_value depths (node_text node.Null) node.Null
+    (inl (ap node_text (sym node.rolls-Null) ∙ fold-roll-Node (List ℕ) node_step Node-F.Null, refl))
 
 bool_text : (b : Bool) → node_text (node.Bool b) ≡ node_step (Node-F.Bool b)
 bool_text b = ap node_text (sym (node.rolls-Bool b)) ∙ fold-roll-Node (List ℕ) node_step (Node-F.Bool b)
@@ -130,26 +142,39 @@ bool_text b = ap node_text (sym (node.rolls-Bool b)) ∙ fold-roll-Node (List �
 bool_written : (depths : ℕ) (b : Bool) → IsWritten depths (node.Bool b)
 unfolding IsWritten
 bool_written depths true w = scalar_value depths (node_text (node.Bool true)) (node.Bool true) (inr (inl (bool_text true, refl)))
-bool_written depths false w = scalar_value depths (node_text (node.Bool false)) (node.Bool false) (inr (inr (inl (bool_text false, refl))))
+bool_written depths false w =
+    scalar_value depths (node_text (node.Bool false)) (node.Bool false) (inr (inr (inl (bool_text false, refl))))
 
 num_written : (depths : ℕ) (units : ℤ) → IsWritten depths (node.Num units)
 unfolding IsWritten
 num_written depths units w =
-    let t : node_text (node.Num units) ≡ units_text units = ap node_text (sym (node.rolls-Num units)) ∙ fold-roll-Node (List ℕ) node_step (Node-F.Num units) in
+    let t : node_text (node.Num units) ≡ units_text units =
+    ap node_text (sym (node.rolls-Num units)) ∙ fold-roll-Node (List ℕ) node_step (Node-F.Num units) in
     let (l, ok, spelled, worth) = units_is units (sym (values_number units) ∙ w.values) in
-    scalar_value depths (node_text (node.Num units)) (node.Num units) (inr (inr (inr (inl (units, (l, ok, t ∙ spelled, worth), refl)))))
+    scalar_value depths (node_text (node.Num units)) (node.Num units)
+    (inr (inr (inr (inl (units, (l, ok, t ∙ spelled, worth), refl)))))
 
 string_written : (depths : ℕ) (text : List ℕ) → IsWritten depths (node.Text text)
 unfolding IsWritten
 string_written depths text w =
-    let t : node_text (node.Text text) ≡ quoted text = ap node_text (sym (node.rolls-Text text)) ∙ fold-roll-Node (List ℕ) node_step (Node-F.Text text) in
+    let t : node_text (node.Text text) ≡ quoted text =
+    ap node_text (sym (node.rolls-Text text)) ∙ fold-roll-Node (List ℕ) node_step (Node-F.Text text) in
     let (chars, are, spelled, worth) = quoted_is text (IsUtf8-from_is_utf8 text (sym (values_text text) ∙ w.values)) in
-    scalar_value depths (node_text (node.Text text)) (node.Text text) (inr (inr (inr (inr (text, (chars, are, t ∙ spelled, worth), refl)))))
+    scalar_value depths (node_text (node.Text text)) (node.Text text)
+    (inr (inr (inr (inr (text, (chars, are, t ∙ spelled, worth), refl)))))
 
 -- ---- arrays and objects
 
 bare : (IsText : List ℕ → Type 0) (text : List ℕ) → IsText text → Padded IsText text
-bare IsText text is = record { before = []; text = text; behind = []; white_before = refl; white_behind = refl; is_text = is; spelled = sym (append-nil text) }
+bare IsText text is = record {
+  before = [];
+  text = text;
+  behind = [];
+  white_before = refl;
+  white_behind = refl;
+  is_text = is;
+  spelled = sym (append-nil text);
+}
 
 abbrev IsItem : ℕ → List ℕ → Node → Type 0
 IsItem depths part item = Padded (λ text. IsValue depths text item) part
@@ -160,8 +185,12 @@ unfolding IsWritten
 each_item depths all [] d v n = tt
 each_item depths all (x ∷ xs) d v n =
     let vs = and_true (has_values x) (list_all has_values xs) v in
-    let ns = and_true (has_distinct_names x) (list_all has_distinct_names xs) n in
-    (bare (λ text. IsValue depths text x) (node_text x) (all x (record { depth = omega arith; values = vs.0; names = ns.0 })), each_item depths all xs (omega arith) vs.1 ns.1)
+    let ns = and_true (has_distinct_names x) (list_all has_distinct_names xs) n in (
+      bare (λ text. IsValue depths text x) (node_text x)
+          (all x (record { depth = omega arith; values = vs.0; names = ns.0 })),
+      each_item depths all xs (omega arith)
+          vs.1 ns.1,
+    )
 
 items_listed : (depths : ℕ) (list : List Node) → Each (IsItem depths) (map node_text list) list →
     Listed (IsItem depths) (joined (map node_text list)) list
@@ -178,7 +207,8 @@ array_written depths all list w =
     let each = each_item depths all list (omega arith) (sym (values_items list) ∙ w.values) (sym (names_items list) ∙ w.names) in
     inr (inl (list, (joined (map node_text list), items_listed depths list each, items_text list), refl))
 
-each_member : (depths : ℕ) → ((n : Node) → IsWritten depths n) → (list : List Member) → greatest (map (λ m. depth m.1) list) ≤ depths →
+each_member : (depths : ℕ) → ((n : Node) → IsWritten depths n) → (list : List Member) →
+    greatest (map (λ m. depth m.1) list) ≤ depths →
     list_all (λ m. is_utf8 m.0 && has_values m.1) list ≡ true → list_all (λ m. has_distinct_names m.1) list ≡ true →
     Each (IsMember (IsValue depths)) (map member_text list) list
 unfolding IsWritten
@@ -188,7 +218,8 @@ each_member depths all (m ∷ ms) d v n =
     let one = and_true (is_utf8 m.0) (has_values m.1) vs.0 in
     let ns = and_true (has_distinct_names m.1) (list_all (λ k. has_distinct_names k.1) ms) n in
     let name = bare (λ text. IsString text (Some m.0)) (quoted m.0) (quoted_is m.0 (IsUtf8-from_is_utf8 m.0 one.0)) in
-    let value = bare (λ text. IsValue depths text m.1) (node_text m.1) (all m.1 (record { depth = omega arith; values = one.1; names = ns.0 })) in
+    let value = bare (λ text. IsValue depths text m.1) (node_text m.1)
+    (all m.1 (record { depth = omega arith; values = one.1; names = ns.0 })) in
     ((quoted m.0, node_text m.1, name, value, refl), each_member depths all ms (omega arith) vs.1 ns.1)
 
 members_listed : (depths : ℕ) (list : List Member) → Each (IsMember (IsValue depths)) (map member_text list) list →
@@ -196,13 +227,20 @@ members_listed : (depths : ℕ) (list : List Member) → Each (IsMember (IsValue
 members_listed depths [] each = refl
 members_listed depths (m ∷ ms) each = (map member_text (m ∷ ms), each, refl)
 
-object_written : (depths : ℕ) → ((n : Node) → IsWritten depths n) → (list : List Member) → IsWritten (suc depths) (node.Members list)
+object_written : (depths : ℕ) → ((n : Node) → IsWritten depths n) → (list : List Member) →
+    IsWritten (suc depths) (node.Members list)
 unfolding IsWritten IsValue
 object_written depths all list w =
-    let d : 1 + greatest (map (λ m. depth m.1) list) ≤ suc depths = subst (λ (k : ℕ). k ≤ suc depths) (depth_members list) w.depth in
-    let q = and_true (is_distinct (map (λ m. m.0) list)) (list_all (λ m. has_distinct_names m.1) list) (sym (names_members list) ∙ w.names) in
+    let d : 1 + greatest (map (λ m. depth m.1) list) ≤ suc depths =
+    subst (λ (k : ℕ). k ≤ suc depths) (depth_members list) w.depth in
+    let q = and_true (is_distinct (map (λ m. m.0) list)) (list_all (λ m. has_distinct_names m.1) list)
+    (sym (names_members list) ∙ w.names) in
     let each = each_member depths all list (omega arith) (sym (values_members list) ∙ w.values) q.1 in
-    inr (inr (list, (joined (map member_text list), members_listed depths list each, members_text list), ap (λ (ms : List Member). node.Members ms) (sym (last_are_all list q.0))))
+    inr (inr (
+      list,
+      (joined (map member_text list), members_listed depths list each, members_text list),
+      ap (λ (ms : List Member). node.Members ms) (sym (last_are_all list q.0)),
+    ))
 
 -- ---- whole trees
 
@@ -212,12 +250,15 @@ Opened n = (z : Node-F Node) × (roll-Node z ≡ n)
 opened : (n : Node) → Opened n
 opened = ind-Node Opened (λ x y is. (x, refl))
 
-rolled_written : (depths : ℕ) (n : Node) → Opened n → ((m : Node) → (list : List Node) → m ≡ node.Items list → IsWritten depths m) →
+rolled_written : (depths : ℕ) (n : Node) → Opened n → ((m : Node) → (list : List Node) → m ≡ node.Items list →
+    IsWritten depths m) →
     ((m : Node) → (list : List Member) → m ≡ node.Members list → IsWritten depths m) → IsWritten depths n
 rolled_written depths n (Node-F.Null, is) a o = subst (IsWritten depths) (sym node.rolls-Null ∙ is) (null_written depths)
 rolled_written depths n (Node-F.Bool b, is) a o = subst (IsWritten depths) (sym (node.rolls-Bool b) ∙ is) (bool_written depths b)
-rolled_written depths n (Node-F.Num units, is) a o = subst (IsWritten depths) (sym (node.rolls-Num units) ∙ is) (num_written depths units)
-rolled_written depths n (Node-F.Text t, is) a o = subst (IsWritten depths) (sym (node.rolls-Text t) ∙ is) (string_written depths t)
+rolled_written depths n (Node-F.Num units, is) a o =
+    subst (IsWritten depths) (sym (node.rolls-Num units) ∙ is) (num_written depths units)
+rolled_written depths n (Node-F.Text t, is) a o =
+    subst (IsWritten depths) (sym (node.rolls-Text t) ∙ is) (string_written depths t)
 rolled_written depths n (Node-F.Items list, is) a o = a n list (sym is ∙ node.rolls-Items list)
 rolled_written depths n (Node-F.Members list, is) a o = o n list (sym is ∙ node.rolls-Members list)
 
@@ -232,9 +273,11 @@ node_written (suc depths) n = rolled_written (suc depths) n (opened n)
 
 text_by : (depths : ℕ) (text : List ℕ) (n : Node) → text ≡ node_text n → Writable depths n → Padded (λ t. IsValue depths t n) text
 unfolding IsWritten
-text_by depths text n e w = subst (λ (t : List ℕ). Padded (λ u. IsValue depths u n) t) (sym e) (bare (λ u. IsValue depths u n) (node_text n) (node_written depths n w))
+text_by depths text n e w = subst (λ (t : List ℕ). Padded (λ u. IsValue depths u n) t) (sym e)
+    (bare (λ u. IsValue depths u n) (node_text n) (node_written depths n w))
 
 -- what is written of a tree is a text of that tree
-pub written_is : (text : List ℕ) (n : Node) → text ≡ node_text n → IsUtf8 text → has_values n ≡ true → depth n ≤ 128 → IsTrue (has_distinct_names n) →
+pub written_is : (text : List ℕ) (n : Node) → text ≡ node_text n → IsUtf8 text → has_values n ≡ true → depth n ≤ 128 →
+    IsTrue (has_distinct_names n) →
     IsJson text n
 written_is text n e u v d names = (u, text_by 128 text n e (record { depth = d; values = v; names = names }))

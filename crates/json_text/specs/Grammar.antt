@@ -43,7 +43,9 @@ Listed IsPart inner (v ∷ vs) = (parts : List (List ℕ)) × Each IsPart parts 
 
 -- array (section 5)
 abbrev pub IsArray : (List ℕ → Node → Type 0) → List ℕ → List Node → Type 0
-IsArray IsText bytes items = (inner : List ℕ) × Listed (λ part item. Padded (λ text. IsText text item) part) inner items × (bytes ≡ 0x5B ∷ inner ++ 0x5D ∷ [])
+IsArray IsText bytes items =
+    (inner : List ℕ) × Listed (λ part item. Padded (λ text. IsText text item) part) inner items
+    × (bytes ≡ 0x5B ∷ inner ++ 0x5D ∷ [])
 
 abbrev pub Member : Type 0
 Member = List ℕ × Node
@@ -51,7 +53,8 @@ Member = List ℕ × Node
 -- member (section 4): a string, a colon and a value
 abbrev pub IsMember : (List ℕ → Node → Type 0) → List ℕ → Member → Type 0
 IsMember IsText bytes member =
-    (name : List ℕ) × (value : List ℕ) × Padded (λ text. IsString text (Some member.0)) name × Padded (λ text. IsText text member.1) value × (bytes ≡ name ++ 0x3A ∷ value)
+    (name : List ℕ) × (value : List ℕ) × Padded (λ text. IsString text (Some member.0)) name ×
+    Padded (λ text. IsText text member.1) value × (bytes ≡ name ++ 0x3A ∷ value)
 
 -- object (section 4)
 abbrev pub IsObject : (List ℕ → Node → Type 0) → List ℕ → List Member → Type 0

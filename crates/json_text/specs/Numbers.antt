@@ -49,7 +49,9 @@ exponent_text letter sign (b ∷ bs) = letter ∷ sign ++ b ∷ bs
 
 -- number: [ minus ] int [ frac ] [ exp ]
 abbrev pub literal_text : Literal → List ℕ
-literal_text l = (if l.minus then 0x2D ∷ [] else []) ++ l.whole ++ fraction_text l.fraction ++ exponent_text l.letter l.sign l.exponent
+literal_text l =
+    (if l.minus then 0x2D ∷ [] else []) ++ l.whole ++ fraction_text l.fraction
+    ++ exponent_text l.letter l.sign l.exponent
 
 pub record IsLiteral (l : Literal) : Type 0 where
   pub whole : IsTrue (is_int l.whole)
@@ -75,7 +77,8 @@ whole_units top bottom = if (top % bottom == 0) && nat_lt (top / bottom) (10 ^ 3
 -- how many units of 10^-18 these digits, this fraction and this exponent make
 abbrev pub magnitude : List ℕ → List ℕ → Bool → List ℕ → Option ℕ
 magnitude whole fraction down exponent =
-    whole_units (digits_value (whole ++ fraction) * 10 ^ (18 + raised down exponent)) (10 ^ (length fraction + lowered down exponent))
+    whole_units (digits_value (whole ++ fraction) * 10 ^ (18 + raised down exponent))
+    (10 ^ (length fraction + lowered down exponent))
 
 abbrev pub with_sign : Bool → Option ℕ → Option ℤ
 with_sign minus None = None
@@ -91,4 +94,5 @@ is_minus (b ∷ bs) = b == 0x2D
 
 -- the bytes are a number, which is worth so much: nothing where it is out of range
 abbrev pub IsNumber : List ℕ → Option ℤ → Type 0
-IsNumber bytes n = (l : Literal) × IsLiteral l × (bytes ≡ literal_text l) × (n ≡ worth l.minus l.whole l.fraction (is_minus l.sign) l.exponent)
+IsNumber bytes n = (l : Literal) × IsLiteral l × (bytes ≡ literal_text l) ×
+    (n ≡ worth l.minus l.whole l.fraction (is_minus l.sign) l.exponent)

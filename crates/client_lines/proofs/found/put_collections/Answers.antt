@@ -6,10 +6,15 @@ use Rattle.client_lines.proofs.found.put_collections.Goals as goal
 
 pub returns-in_err-put_line-clause-bytes : goal.returns-in_err-put_line-clause-bytes
 returns-in_err-put_line-clause-bytes g c =
-    passes_short c.from_residual.result c.in_err-put_line.field-0.0 c.args.outbox.now c.put_line.new.outbox c.put_line.new.outbox (g.W.Sink.written c.args.sink.now) (g.W.Sink.written c.put_line.new.sink) (ended (codes "doc" ++ spaced_parts c.args.times.now)) (ended c.args.collections.now)
+    passes_short c.from_residual.result c.in_err-put_line.field-0.0 c.args.outbox.now c.put_line.new.outbox
+    c.put_line.new.outbox (g.W.Sink.written c.args.sink.now) (g.W.Sink.written c.put_line.new.sink)
+    (ended (codes "doc" ++ spaced_parts c.args.times.now)) (ended c.args.collections.now)
     c.from_residual.ensures.0 c.in_err-put_line.ensures.bytes
 
 pub returns-clause-bytes : goal.returns-clause-bytes
 returns-clause-bytes g c =
-    passes_more tt c.put_text.result c.args.outbox.now c.put_line.new.outbox c.put_text.new.outbox (g.W.Sink.written c.args.sink.now) (g.W.Sink.written c.put_line.new.sink) (g.W.Sink.written c.put_text.new.sink) (ended (codes "doc" ++ spaced_parts c.args.times.now)) (ended c.args.collections.now)
+    passes_more tt c.put_text.result c.args.outbox.now c.put_line.new.outbox c.put_text.new.outbox
+    (g.W.Sink.written c.args.sink.now) (g.W.Sink.written c.put_line.new.sink)
+    (g.W.Sink.written c.put_text.new.sink) (ended (codes "doc" ++ spaced_parts c.args.times.now))
+    (ended c.args.collections.now)
     c.in_ok-put_line.ensures.bytes c.put_text.ensures.bytes

@@ -7,10 +7,16 @@ use Rattle.client_lines.proofs.found.put_found.Goals as goal
 
 pub returns-in_err-put_uris-clause-bytes : goal.returns-in_err-put_uris-clause-bytes
 returns-in_err-put_uris-clause-bytes g c =
-    passes_short c.from_residual.result c.in_err-put_uris.field-0.0 c.args.outbox.now c.put_uris.new.outbox c.put_uris.new.outbox (g.W.Sink.written c.args.sink.now) (g.W.Sink.written c.put_uris.new.sink) (ended (codes "found" ++ spaced_parts c.args.times.now) ++ flat_map ended c.args.uris.now) (ended (codes "end"))
+    passes_short c.from_residual.result c.in_err-put_uris.field-0.0 c.args.outbox.now c.put_uris.new.outbox
+    c.put_uris.new.outbox (g.W.Sink.written c.args.sink.now) (g.W.Sink.written c.put_uris.new.sink)
+    (ended (codes "found" ++ spaced_parts c.args.times.now) ++ flat_map ended c.args.uris.now)
+    (ended (codes "end"))
     c.from_residual.ensures.0 c.in_err-put_uris.ensures.bytes
 
 pub returns-clause-bytes : goal.returns-clause-bytes
 returns-clause-bytes g c =
-    passes_more tt c.put_ended.result c.args.outbox.now c.put_uris.new.outbox c.put_ended.new.outbox (g.W.Sink.written c.args.sink.now) (g.W.Sink.written c.put_uris.new.sink) (g.W.Sink.written c.put_ended.new.sink) (ended (codes "found" ++ spaced_parts c.args.times.now) ++ flat_map ended c.args.uris.now) (ended (codes "end"))
+    passes_more tt c.put_ended.result c.args.outbox.now c.put_uris.new.outbox c.put_ended.new.outbox
+    (g.W.Sink.written c.args.sink.now) (g.W.Sink.written c.put_uris.new.sink)
+    (g.W.Sink.written c.put_ended.new.sink) (ended (codes "found" ++ spaced_parts c.args.times.now) ++ flat_map
+    ended c.args.uris.now) (ended (codes "end"))
     c.in_ok-put_uris.ensures.bytes c.put_ended.ensures.bytes

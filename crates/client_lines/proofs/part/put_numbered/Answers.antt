@@ -4,10 +4,13 @@ use Rattle.client_lines.proofs.part.put_numbered.Goals as goal
 
 pub returns-in_err-add-clause-bytes : goal.returns-in_err-add-clause-bytes
 returns-in_err-add-clause-bytes g c =
-    passes_short c.from_residual.result c.in_err-add.field-0.0 c.args.outbox.now c.add.new.self c.add.new.self (g.W.Sink.written c.args.sink.now) (g.W.Sink.written c.add.new.sink) c.args.name.now (decimal c.args.number)
+    passes_short c.from_residual.result c.in_err-add.field-0.0 c.args.outbox.now c.add.new.self c.add.new.self
+    (g.W.Sink.written c.args.sink.now) (g.W.Sink.written c.add.new.sink) c.args.name.now (decimal c.args.number)
     c.from_residual.ensures.0 c.in_err-add.ensures.bytes
 
 pub returns-clause-bytes : goal.returns-clause-bytes
 returns-clause-bytes g c =
-    passes_more tt c.put_number.result c.args.outbox.now c.add.new.self c.put_number.new.outbox (g.W.Sink.written c.args.sink.now) (g.W.Sink.written c.add.new.sink) (g.W.Sink.written c.put_number.new.sink) c.args.name.now (decimal c.args.number)
+    passes_more tt c.put_number.result c.args.outbox.now c.add.new.self c.put_number.new.outbox
+    (g.W.Sink.written c.args.sink.now) (g.W.Sink.written c.add.new.sink) (g.W.Sink.written c.put_number.new.sink)
+    c.args.name.now (decimal c.args.number)
     c.in_ok-add.ensures.bytes c.put_number.ensures.bytes

@@ -6,7 +6,8 @@ use Rattle.client_lines.proofs.words.put_parts.Given as goal
 
 abbrev pub invariant-loop-part : goal.invariant-loop-part
 invariant-loop-part g l = record {
-  passes : Passes (Ok tt) l.fn.outbox l.outbox (g.W.Sink.written l.fn.sink) (g.W.Sink.written l.sink) (flat_map spaced_part (take l.part-index l.parts));
+  passes : Passes (Ok tt) l.fn.outbox l.outbox (g.W.Sink.written l.fn.sink) (g.W.Sink.written l.sink)
+      (flat_map spaced_part (take l.part-index l.parts));
   room : length l.outbox < 65536;
   later : g.W.Sink.faults l.fn.sink ≤ g.W.Sink.faults l.sink;
 }

@@ -5,12 +5,17 @@ use Rattle.client_lines.proofs.words.put_texts.Goals as goal
 
 pub returns-in_err-put_text-clause-bytes : goal.returns-in_err-put_text-clause-bytes
 returns-in_err-put_text-clause-bytes g c =
-    passes_break ended tt c.from_residual.result c.in_err-put_text.field-0.0 c.args.outbox.now c.loop-text.outbox c.put_text.new.outbox (g.W.Sink.written c.args.sink.now) (g.W.Sink.written c.loop-text.sink) (g.W.Sink.written c.put_text.new.sink) c.args.texts.now c.loop-text.text-index c.text-item.result c.loop-text-test.true c.text-item.is
+    passes_break ended tt c.from_residual.result c.in_err-put_text.field-0.0 c.args.outbox.now c.loop-text.outbox
+    c.put_text.new.outbox (g.W.Sink.written c.args.sink.now) (g.W.Sink.written c.loop-text.sink)
+    (g.W.Sink.written c.put_text.new.sink) c.args.texts.now c.loop-text.text-index c.text-item.result
+    c.loop-text-test.true c.text-item.is
     c.from_residual.ensures.0 c.loop-text.invariant.passes c.in_err-put_text.ensures.bytes
 
 pub loop-text-preserved : goal.loop-text-preserved
 loop-text-preserved g c = record {
-  passes = passes_each ended tt tt c.args.outbox.now c.loop-text.outbox c.put_text.new.outbox (g.W.Sink.written c.args.sink.now) (g.W.Sink.written c.loop-text.sink) (g.W.Sink.written c.put_text.new.sink) c.args.texts.now c.loop-text.text-index c.text-item.result c.loop-text-test.true c.text-item.is
+  passes = passes_each ended tt tt c.args.outbox.now c.loop-text.outbox c.put_text.new.outbox
+      (g.W.Sink.written c.args.sink.now) (g.W.Sink.written c.loop-text.sink) (g.W.Sink.written c.put_text.new.sink)
+      c.args.texts.now c.loop-text.text-index c.text-item.result c.loop-text-test.true c.text-item.is
       c.loop-text.invariant.passes c.in_ok-put_text.ensures.bytes;
   room = c.in_ok-put_text.ensures.room;
   later = omega (arith, c.loop-text.invariant.later, c.in_ok-put_text.ensures.cause.later);

@@ -6,7 +6,8 @@ use Rattle.client_lines.proofs.words.put_texts.Given as goal
 
 abbrev pub invariant-loop-text : goal.invariant-loop-text
 invariant-loop-text g l = record {
-  passes : Passes (Ok tt) l.fn.outbox l.outbox (g.W.Sink.written l.fn.sink) (g.W.Sink.written l.sink) (flat_map ended (take l.text-index l.texts));
+  passes : Passes (Ok tt) l.fn.outbox l.outbox (g.W.Sink.written l.fn.sink) (g.W.Sink.written l.sink)
+      (flat_map ended (take l.text-index l.texts));
   room : length l.outbox < 65536;
   later : g.W.Sink.faults l.fn.sink ≤ g.W.Sink.faults l.sink;
 }

@@ -4,10 +4,14 @@ use Rattle.client_lines.proofs.words.put_words.Goals as goal
 
 pub returns-in_err-add-clause-bytes : goal.returns-in_err-add-clause-bytes
 returns-in_err-add-clause-bytes g c =
-    passes_short c.from_residual.result c.in_err-add.field-0.0 c.args.outbox.now c.add.new.self c.add.new.self (g.W.Sink.written c.args.sink.now) (g.W.Sink.written c.add.new.sink) c.args.first.now (spaced_parts c.args.more.now)
+    passes_short c.from_residual.result c.in_err-add.field-0.0 c.args.outbox.now c.add.new.self c.add.new.self
+    (g.W.Sink.written c.args.sink.now) (g.W.Sink.written c.add.new.sink) c.args.first.now
+    (spaced_parts c.args.more.now)
     c.from_residual.ensures.0 c.in_err-add.ensures.bytes
 
 pub returns-clause-bytes : goal.returns-clause-bytes
 returns-clause-bytes g c =
-    passes_more tt c.put_parts.result c.args.outbox.now c.add.new.self c.put_parts.new.outbox (g.W.Sink.written c.args.sink.now) (g.W.Sink.written c.add.new.sink) (g.W.Sink.written c.put_parts.new.sink) c.args.first.now (spaced_parts c.args.more.now)
+    passes_more tt c.put_parts.result c.args.outbox.now c.add.new.self c.put_parts.new.outbox
+    (g.W.Sink.written c.args.sink.now) (g.W.Sink.written c.add.new.sink) (g.W.Sink.written c.put_parts.new.sink)
+    c.args.first.now (spaced_parts c.args.more.now)
     c.in_ok-add.ensures.bytes c.put_parts.ensures.bytes

@@ -11,4 +11,6 @@ returns-clause-moved c =
     let n : ℕ = c.args.to - from in
     let same : n ≡ 0 + n = omega arith in
     ap (take n) c.copy_within.ensures.items ∙ (ap (λ k. take k (paste all 0 (drop from all) n)) same
-    ∙ (take-paste all 0 (drop from all) n (omega (arith, c.requires, c.args.buffer.now.ok.0)) (omega (arith, c.requires, c.args.buffer.now.ok.0, length-drop from all)) ∙ window from c.args.to all c.requires.order))
+    ∙ (take-paste all 0 (drop from all) n (omega (arith, c.requires, c.args.buffer.now.ok.0))
+    (omega (arith, c.requires, c.args.buffer.now.ok.0, length-drop from all)) ∙ window from c.args.to all
+    c.requires.order))

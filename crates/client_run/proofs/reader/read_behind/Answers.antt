@@ -9,11 +9,13 @@ returns-in-Ok-clause-bytes g c =
     let ok = c.args.buffer.now.ok.0 in
     let le : c.args.to ≤ length c.args.buffer.now.items = omega (arith, c.requires, ok) in
     let within : n ≤ length new = omega (arith, c.in-Ok.ensures.bound.0) in
-    let room : length new ≡ vec_len c.args.buffer.now - c.args.to = omega (arith, c.requires, ok, c.deref_mut.ensures.len, c.read.auto) in
+    let room : length new ≡ vec_len c.args.buffer.now - c.args.to =
+    omega (arith, c.requires, ok, c.deref_mut.ensures.len, c.read.auto) in
     let some : 0 < length new = omega (arith, room, c.requires) in (
       take n new,
       c.in-Ok.ensures.bytes.0,
-      read_behind c.args.to (vec_len c.args.buffer.now) c.args.buffer.now.items c.deref_mut.result.now new _ _ c.deref_mut.ensures.value le n within (omega (arith, within, room, c.requires)),
+      read_behind c.args.to (vec_len c.args.buffer.now) c.args.buffer.now.items c.deref_mut.result.now new _ _
+          c.deref_mut.ensures.value le n within (omega (arith, within, room, c.requires)),
       sym c.in-Ok.ensures.bound.1,
       λ none. c.in-Ok.ensures.bytes.1 none some,
     )

@@ -6,11 +6,13 @@ use Rattle.transcript.specs.Lines.{most_lines}
 use Rattle.client_run.proofs.serving.session.Goals as goal
 
 pub returns-in_default-clause-serves : goal.returns-in_default-clause-serves
-returns-in_default-clause-serves g c = no_memory g.S.Service.answers c.args.service.now (g.I.Source.left c.args.source.now) (g.W.Sink.written c.args.sink.now)
+returns-in_default-clause-serves g c = no_memory g.S.Service.answers c.args.service.now
+    (g.I.Source.left c.args.source.now) (g.W.Sink.written c.args.sink.now)
 
 pub lines-init : goal.lines-init
 lines-init g c = record {
-  so_far = rw (c.in-Ok.ensures.0, c.in-Ok.ensures.1) (begins g.S.Service.answers c.args.service.now (g.I.Source.left c.args.source.now) (g.W.Sink.written c.args.sink.now));
+  so_far = rw (c.in-Ok.ensures.0, c.in-Ok.ensures.1) (begins g.S.Service.answers c.args.service.now
+      (g.I.Source.left c.args.source.now) (g.W.Sink.written c.args.sink.now));
   few = omega arith;
   ready = c.requires;
   source_later = omega arith;
@@ -19,7 +21,8 @@ lines-init g c = record {
 
 pub returns-in-Err-clause-serves : goal.returns-in-Err-clause-serves
 returns-in-Err-clause-serves g c =
-    parts g.S.Service.answers (start c.args.service.now (g.I.Source.left c.args.source.now) (g.W.Sink.written c.args.sink.now)) _ c.in-Err.how (c.in-Err.ensures.steps _ c.lines.invariant.so_far)
+    parts g.S.Service.answers (start c.args.service.now (g.I.Source.left c.args.source.now)
+    (g.W.Sink.written c.args.sink.now)) _ c.in-Err.how (c.in-Err.ensures.steps _ c.lines.invariant.so_far)
 
 pub lines-smaller : goal.lines-smaller
 lines-smaller g c =

@@ -11,21 +11,28 @@ same_names (Ok v) a b h is = is ∙ h
 same_names (Err e) a b h is = tt
 
 -- the names of an object, and then its values
-members_named : (n : Node) (members : List (List ℕ × Node)) (named : Bool) → n ≡ node.Members members → is_distinct (map (λ m. m.0) members) ≡ named →
+members_named : (n : Node) (members : List (List ℕ × Node)) (named : Bool) → n ≡ node.Members members →
+    is_distinct (map (λ m. m.0) members) ≡ named →
     has_distinct_names n ≡ (named && list_all (λ m. has_distinct_names m.1) members)
-members_named n members named is h = ap has_distinct_names is ∙ names_members members ∙ ap (λ b. b && list_all (λ m. has_distinct_names m.1) members) h
+members_named n members named is h =
+    ap has_distinct_names is ∙ names_members members ∙ ap (λ b. b && list_all (λ m. has_distinct_names m.1) members) h
 
-in_slice : (slice members : List (List ℕ × Node)) → slice ≡ members → is_distinct (map (λ m. m.0) slice) ≡ is_distinct (map (λ m. m.0) members)
+in_slice : (slice members : List (List ℕ × Node)) → slice ≡ members → is_distinct (map (λ m. m.0) slice) ≡ is_distinct
+    (map (λ m. m.0) members)
 in_slice slice members is = ap (λ ms. is_distinct (map (λ m. m.0) ms)) is
 
 pub has_distinct_names-returns-then-not-branch : goal.has_distinct_names-returns-then-not-branch
 has_distinct_names-returns-then-not-branch t c =
-    sym (members_named c.args.node.now c.in-Members.members _ c.in-Members.is (sym (in_slice _ _ c.as_slice.ensures) ∙ sym c.in_ok-is_distinct-in-Members.ensures ∙ c.if-not-branch.true))
+    sym (members_named c.args.node.now c.in-Members.members _ c.in-Members.is (sym (in_slice _ _ c.as_slice.ensures) ∙
+    sym c.in_ok-is_distinct-in-Members.ensures ∙ c.if-not-branch.true))
 
 pub has_distinct_names-returns-in-Items : goal.has_distinct_names-returns-in-Items
-has_distinct_names-returns-in-Items t c = same_names _ _ _ (sym (ap has_distinct_names c.in-Items.is ∙ names_items c.in-Items.items)) c.items_distinct.ensures
+has_distinct_names-returns-in-Items t c = same_names _ _ _
+    (sym (ap has_distinct_names c.in-Items.is ∙ names_items c.in-Items.items)) c.items_distinct.ensures
 
 pub has_distinct_names-returns-else-not-branch : goal.has_distinct_names-returns-else-not-branch
 has_distinct_names-returns-else-not-branch t c =
-    same_names _ _ _ (sym (members_named c.args.node.now c.in-Members.members _ c.in-Members.is (sym (in_slice _ _ c.as_slice.ensures) ∙ sym c.in_ok-is_distinct-in-Members.ensures ∙ c.if-not-branch.false)))
+    same_names _ _ _
+    (sym (members_named c.args.node.now c.in-Members.members _ c.in-Members.is
+    (sym (in_slice _ _ c.as_slice.ensures) ∙ sym c.in_ok-is_distinct-in-Members.ensures ∙ c.if-not-branch.false)))
     c.members_distinct.ensures

@@ -24,14 +24,25 @@ loop-c-preserved c =
     let size = c.len_utf8-at.ensures.value in
     record {
       text = IsUtf8-past_char _ _ c.in-Some.c held.text parts;
-      place = omega (arith, held.place, ap length parts, length-append (encode c.in-Some.c) (chars_rest c.next.new.self), length-encode c.in-Some.c, size);
+      place = omega (
+        arith,
+        held.place,
+        ap length parts,
+        length-append (encode c.in-Some.c)
+            (chars_rest c.next.new.self),
+        length-encode c.in-Some.c,
+        size,
+      );
       told = elim c.if-is_word_char.branch [
-        | then-is_word_char w ↦ rw w.out-is (told_word _ _ _ _ _ c.in-Some.c _ _ told size (sym c.is_word_char.ensures ∙ w.if-is_word_char.true) (w.start-is ∙ ap Some w.unwrap_or.ensures))
+        | then-is_word_char w ↦ rw w.out-is (told_word _ _ _ _ _ c.in-Some.c _ _ told size
+            (sym c.is_word_char.ensures ∙ w.if-is_word_char.true) (w.start-is ∙ ap Some w.unwrap_or.ensures))
         | else-is_word_char+in-Some-start+in_ok-push w ↦
-            told_end _ _ _ _ _ _ _ c.in-Some.c _ _ told size (sym c.is_word_char.ensures ∙ w.if-is_word_char.false) w.in-Some-start.is w.start-is
+            told_end _ _ _ _ _ _ _ c.in-Some.c _ _ told size (sym c.is_word_char.ensures ∙ w.if-is_word_char.false)
+            w.in-Some-start.is w.start-is
             (ap (λ v. v.items) w.out-is ∙ w.in_ok-push.ensures.items)
         | else-is_word_char+in_default w ↦
-            rw w.out-is (told_pass _ _ _ _ _ c.in-Some.c _ _ told size (sym c.is_word_char.ensures ∙ w.if-is_word_char.false) w.in_default.is w.start-is)
+            rw w.out-is (told_pass _ _ _ _ _ c.in-Some.c _ _ told size (sym c.is_word_char.ensures ∙
+            w.if-is_word_char.false) w.in_default.is w.start-is)
       ];
     }
 
@@ -39,6 +50,7 @@ pub returns : goal.returns
 returns c =
     let told = rw (chars_of_empty _ c.in-None.ensures.steps.0.0) at c.loop-c.invariant.told in
     elim c.match-start-2.branch [
-      | in-Some-start-2+in_ok-push-2 w ↦ ap (λ v. v.items) w.out-is ∙ w.in_ok-push-2.ensures.items ∙ (rw w.in-Some-start-2.is at told)
+      | in-Some-start-2+in_ok-push-2 w ↦ ap (λ v. v.items) w.out-is ∙ w.in_ok-push-2.ensures.items ∙
+          (rw w.in-Some-start-2.is at told)
       | in_default-start w ↦ ap (λ v. v.items) w.out-is ∙ sym (append-nil _) ∙ (rw w.in_default-start.is at told)
     ]

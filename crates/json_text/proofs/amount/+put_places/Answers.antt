@@ -8,7 +8,8 @@ pub returns-then-rest-eq0 : goal.returns-then-rest-eq0
 returns-then-rest-eq0 t c = rw (c.if-rest-eq0.true, no_places c.args.places) (sym (append-nil (string_bytes c.args.out.now)))
 
 positive : (places unit rest : ℕ) → unit ≡ 10 ^ places → rest < unit → rest ≢ 0 → 0 < unit / 10
-positive places unit rest e lt ne = subst (λ (n : ℕ). 0 < n) (sym (tenth places unit e (some_places places unit rest e lt ne))) (ten_positive (places - 1))
+positive places unit rest e lt ne = subst (λ (n : ℕ). 0 < n)
+    (sym (tenth places unit e (some_places places unit rest e lt ne))) (ten_positive (places - 1))
 
 pub nonzero_div-rest : goal.nonzero_div-rest
 nonzero_div-rest t c = positive c.args.places c.args.unit c.args.rest c.requires.scale c.requires.below c.if-rest-eq0.false
@@ -25,4 +26,5 @@ put_places-requires t c =
 pub returns : goal.returns
 returns t c =
     let some = some_places c.args.places c.args.unit c.args.rest c.requires.scale c.requires.below c.if-rest-eq0.false in
-    rw (next_place c.args.places c.args.unit c.args.rest c.requires.scale some c.if-rest-eq0.false) (rw (c.in_ok-put_ascii.ensures, append_assoc) at c.put_places.ensures)
+    rw (next_place c.args.places c.args.unit c.args.rest c.requires.scale some c.if-rest-eq0.false)
+    (rw (c.in_ok-put_ascii.ensures, append_assoc) at c.put_places.ensures)

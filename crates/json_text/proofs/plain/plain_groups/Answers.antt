@@ -8,5 +8,6 @@ loop-n-preserved c =
     let within : c.loop-n.n + 8 ≤ length c.args.bytes.now = omega arith in
     record {
       within = within;
-      plain = group_passes is_plain c.args.bytes.now c.loop-n.n 8 within (sym c.all_plain.ensures ∙ c.if-all_plain.true) c.loop-n.invariant.plain;
+      plain = group_passes is_plain c.args.bytes.now c.loop-n.n 8 within (sym c.all_plain.ensures ∙
+          c.if-all_plain.true) c.loop-n.invariant.plain;
     }

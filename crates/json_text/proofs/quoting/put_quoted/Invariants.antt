@@ -6,7 +6,8 @@ use Rattle.json_text.specs.Canonical.{escaped_text}
 use Rattle.json_text.proofs.quoting.put_quoted.Given as goal
 
 abbrev pub invariant-loop-run : goal.invariant-loop-run
-invariant-loop-run l = shadow (Utf8 l.rest) × (string_bytes l.out ++ escaped_text l.rest ≡ string_bytes l.initial.out ++ escaped_text l.text)
+invariant-loop-run l = shadow (Utf8 l.rest) ×
+    (string_bytes l.out ++ escaped_text l.rest ≡ string_bytes l.initial.out ++ escaped_text l.text)
 
 abbrev pub decreases-loop-run : goal.decreases-loop-run
 decreases-loop-run l = length l.rest

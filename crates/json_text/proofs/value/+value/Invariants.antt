@@ -27,7 +27,11 @@ abbrev pub decreases-nested : goal.decreases-nested
 decreases-nested l = 5 * l.room + 4
 
 abbrev pub invariant-some_items-loop : goal.invariant-some_items-loop
-invariant-some_items-loop l = with_front l.items.items (repeated (item_at (value_at l.room)) (length l.bytes - l.counter) l.rest) ≡ repeated (item_at (value_at l.room)) (length l.bytes) l.bytes
+invariant-some_items-loop l = with_front l.items.items
+    (repeated (item_at (value_at l.room)) (length l.bytes - l.counter) l.rest) ≡ repeated (item_at (value_at l.room))
+    (length l.bytes) l.bytes
 
 abbrev pub invariant-some_members-loop : goal.invariant-some_members-loop
-invariant-some_members-loop l = with_front l.members.items (repeated (member_at (value_at l.room)) (length l.bytes - l.counter) l.rest) ≡ repeated (member_at (value_at l.room)) (length l.bytes) l.bytes
+invariant-some_members-loop l = with_front l.members.items
+    (repeated (member_at (value_at l.room)) (length l.bytes - l.counter) l.rest) ≡ repeated
+    (member_at (value_at l.room)) (length l.bytes) l.bytes

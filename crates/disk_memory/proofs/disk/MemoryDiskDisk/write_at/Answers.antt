@@ -17,11 +17,15 @@ returns-in-Stopped-clause-broken c =
 
 pub returns-in-Stopped-clause-crash : goal.returns-in-Stopped-clause-crash
 returns-in-Stopped-clause-crash c image may =
-    let step = Torn c.args.place (length c.args.bytes.now) in
-    (image, subst (λ (l : MemoryLogs). MayLeave l.logs.items image) c.fail-in-Stopped.ensures.same may, only_at_same c.args.file step image (torn_same c.args.place (length c.args.bytes.now)))
+    let step = Torn c.args.place (length c.args.bytes.now) in (
+      image,
+      subst (λ (l : MemoryLogs). MayLeave l.logs.items image) c.fail-in-Stopped.ensures.same may,
+      only_at_same c.args.file step image (torn_same c.args.place (length c.args.bytes.now)),
+    )
 
 pub returns-in-Err-clause-time : goal.returns-in-Err-clause-time
 returns-in-Err-clause-time c =
     let s = c.args.self.now.logs in
-    subst (λ (l : MemoryLogs). Elapses (length s.past.items) (length l.past.items) (LeftSince s.past.items s.logs.items) (LeftSince l.past.items l.logs.items) (MayLeave l.logs.items))
+    subst (λ (l : MemoryLogs). Elapses (length s.past.items) (length l.past.items)
+    (LeftSince s.past.items s.logs.items) (LeftSince l.past.items l.logs.items) (MayLeave l.logs.items))
     (sym c.fail-in-Err.ensures.same) c.in-Err.ensures.steps.time

@@ -11,4 +11,5 @@ loop-k-preserved c =
     let within : k < length changes = omega (arith, c.loop-k-test.true, c.len-k-end.ensures, s.pending.ok.0) in
     let next : suc k ≡ k + 1 = omega arith in
     subst (λ (j : ℕ). MayHold (take j changes) s.sure.value.items c.in_ok-bytes.bytes.items) next
-    (may_step changes c.index.result.now k s.sure.value.items c.loop-k.bytes.items c.in_ok-bytes.bytes.items within c.index.ensures c.loop-k.invariant c.in_ok-bytes.ensures)
+    (may_step changes c.index.result.now k s.sure.value.items c.loop-k.bytes.items c.in_ok-bytes.bytes.items within
+    c.index.ensures c.loop-k.invariant c.in_ok-bytes.ensures)

@@ -8,7 +8,8 @@ use Rattle.disk_memory.proofs.log.MemoryLog.miss_cut.Goals as goal
 pub returns-in_err-reserve-clause-crash : goal.returns-in_err-reserve-clause-crash
 returns-in_err-reserve-clause-crash c =
     let s = c.args.self.now in
-    same_becomes (MayCut c.args.len) s.pending.items c.reserve.new.self.items s.sure.value.items c.reserve.ensures.items (cut_same c.args.len)
+    same_becomes (MayCut c.args.len) s.pending.items c.reserve.new.self.items s.sure.value.items
+    c.reserve.ensures.items (cut_same c.args.len)
 
 pub invariant_of-self-2 : goal.invariant_of-self-2
 invariant_of-self-2 c =
@@ -16,8 +17,10 @@ invariant_of-self-2 c =
     let change = MissedCut c.args.len in
     let more : c.push_reserved.new.self.items ≡ s.pending.items ++ change ∷ [] = cc in
     record {
-      redone = redone_more s.pending.items c.push_reserved.new.self.items change s.sure.value.items s.content.items s.content.items more s.redone refl;
-      undone = undone_more s.pending.items c.push_reserved.new.self.items change s.sure.value.items s.content.items s.content.items more s.undone refl;
+      redone = redone_more s.pending.items c.push_reserved.new.self.items change s.sure.value.items s.content.items
+          s.content.items more s.redone refl;
+      undone = undone_more s.pending.items c.push_reserved.new.self.items change s.sure.value.items s.content.items
+          s.content.items more s.undone refl;
       short = s.short;
     }
 
@@ -26,4 +29,5 @@ returns-clause-crash c =
     let s = c.args.self.now in
     let change = MissedCut c.args.len in
     let more : c.push_reserved.new.self.items ≡ s.pending.items ++ change ∷ [] = cc in
-    more_becomes (MayCut c.args.len) s.pending.items c.push_reserved.new.self.items change s.sure.value.items more (λ old new made. made)
+    more_becomes (MayCut c.args.len) s.pending.items c.push_reserved.new.self.items change s.sure.value.items more
+    (λ old new made. made)

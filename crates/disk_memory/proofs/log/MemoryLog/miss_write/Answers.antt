@@ -8,12 +8,14 @@ use Rattle.disk_memory.proofs.log.MemoryLog.miss_write.Goals as goal
 pub returns-in_err-bytes-clause-crash : goal.returns-in_err-bytes-clause-crash
 returns-in_err-bytes-clause-crash c =
     let s = c.args.self.now in
-    same_becomes (Torn c.args.place (length c.args.bytes.now)) s.pending.items s.pending.items s.sure.value.items refl (torn_same c.args.place (length c.args.bytes.now))
+    same_becomes (Torn c.args.place (length c.args.bytes.now)) s.pending.items s.pending.items s.sure.value.items refl
+    (torn_same c.args.place (length c.args.bytes.now))
 
 pub returns-in_err-reserve-clause-crash : goal.returns-in_err-reserve-clause-crash
 returns-in_err-reserve-clause-crash c =
     let s = c.args.self.now in
-    same_becomes (Torn c.args.place (length c.args.bytes.now)) s.pending.items c.reserve.new.self.items s.sure.value.items c.reserve.ensures.items (torn_same c.args.place (length c.args.bytes.now))
+    same_becomes (Torn c.args.place (length c.args.bytes.now)) s.pending.items c.reserve.new.self.items
+    s.sure.value.items c.reserve.ensures.items (torn_same c.args.place (length c.args.bytes.now))
 
 pub invariant_of-self-2 : goal.invariant_of-self-2
 invariant_of-self-2 c =
@@ -21,8 +23,10 @@ invariant_of-self-2 c =
     let change = MissedWrite c.args.place c.in_ok-bytes.bytes in
     let more : c.push_reserved.new.self.items ≡ s.pending.items ++ change ∷ [] = cc in
     record {
-      redone = redone_more s.pending.items c.push_reserved.new.self.items change s.sure.value.items s.content.items s.content.items more s.redone refl;
-      undone = undone_more s.pending.items c.push_reserved.new.self.items change s.sure.value.items s.content.items s.content.items more s.undone refl;
+      redone = redone_more s.pending.items c.push_reserved.new.self.items change s.sure.value.items s.content.items
+          s.content.items more s.redone refl;
+      undone = undone_more s.pending.items c.push_reserved.new.self.items change s.sure.value.items s.content.items
+          s.content.items more s.undone refl;
       short = s.short;
     }
 
@@ -32,5 +36,6 @@ returns-clause-crash c =
     let change = MissedWrite c.args.place c.in_ok-bytes.bytes in
     let more : c.push_reserved.new.self.items ≡ s.pending.items ++ change ∷ [] = cc in
     let copied : c.in_ok-bytes.bytes.items ≡ c.args.bytes.now = search rules in
-    more_becomes (Torn c.args.place (length c.args.bytes.now)) s.pending.items c.push_reserved.new.self.items change s.sure.value.items more
+    more_becomes (Torn c.args.place (length c.args.bytes.now)) s.pending.items c.push_reserved.new.self.items change
+    s.sure.value.items more
     (λ old new made. subst (λ (bytes : List ℕ). Torn c.args.place (length bytes) old new) copied made)

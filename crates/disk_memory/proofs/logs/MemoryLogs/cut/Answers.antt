@@ -9,12 +9,14 @@ use Rattle.disk_memory.proofs.ResultLemmas.{on_ok, on_err, always_on_err}
 use Rattle.disk_memory.proofs.logs.MemoryLogs.cut.Goals as goal
 
 pub returns-in_err-push-clause-err : goal.returns-in_err-push-clause-err
-returns-in_err-push-clause-err c = always_on_err c.from_residual.result (only_at_same c.args.file (MayCut c.args.len) _ (cut_same c.args.len))
+returns-in_err-push-clause-err c =
+    always_on_err c.from_residual.result (only_at_same c.args.file (MayCut c.args.len) _ (cut_same c.args.len))
 
 pub returns-in_err-push-clause-steps : goal.returns-in_err-push-clause-steps
 returns-in_err-push-clause-steps c =
     let s = c.args.self.now in
-    steps_same c.args.file (MayCut c.args.len) s.past.items c.push.new.self.items s.logs.items c.in_err-push.ensures.items (cut_same c.args.len)
+    steps_same c.args.file (MayCut c.args.len) s.past.items c.push.new.self.items s.logs.items
+    c.in_err-push.ensures.items (cut_same c.args.len)
 
 pub returns-clause-ok : goal.returns-clause-ok
 returns-clause-ok c =
@@ -32,7 +34,10 @@ returns-clause-err c =
     let log = c.index_mut.result.now in
     let within : c.args.file < length logs = omega (arith, c.requires.file, s.all, s.logs.ok.0) in
     let here : slice_get logs c.args.file ≡ Some log = get_here logs c.args.file log within c.index_mut.ensures.value in
-    on_err c.cut.result (λ (same : c.cut.new.self.content.items ≡ log.content.items). read_at logs c.args.file log c.cut.new.self (MayCut c.args.len) within here (subst (λ (bytes : List ℕ). MayCut c.args.len log.content.items bytes) (sym same) ((cut_same c.args.len) log.content.items))) c.cut.ensures.err
+    on_err c.cut.result (λ (same : c.cut.new.self.content.items ≡ log.content.items). read_at logs c.args.file log
+    c.cut.new.self (MayCut c.args.len) within here
+    (subst (λ (bytes : List ℕ). MayCut c.args.len log.content.items bytes) (sym same)
+    ((cut_same c.args.len) log.content.items))) c.cut.ensures.err
 
 pub returns-clause-steps : goal.returns-clause-steps
 returns-clause-steps c =
@@ -41,4 +46,6 @@ returns-clause-steps c =
     let log = c.index_mut.result.now in
     let within : c.args.file < length logs = omega (arith, c.requires.file, s.all, s.logs.ok.0) in
     let here : slice_get logs c.args.file ≡ Some log = get_here logs c.args.file log within c.index_mut.ensures.value in
-    steps_at s.past.items c.push.new.self.items c.of.result logs c.args.file log c.cut.new.self (MayCut c.args.len) c.in_ok-push.ensures.items (ap (λ (v : Vec MemoryLog Global). v.items) c.of.ensures) within here c.cut.ensures.crash
+    steps_at s.past.items c.push.new.self.items c.of.result logs c.args.file log c.cut.new.self (MayCut c.args.len)
+    c.in_ok-push.ensures.items (ap (λ (v : Vec MemoryLog Global). v.items) c.of.ensures) within here
+    c.cut.ensures.crash

@@ -8,12 +8,14 @@ use Rattle.disk_memory.proofs.HeldLemmas.{get_here, read_at, steps_at, only_at_s
 use Rattle.disk_memory.proofs.logs.MemoryLogs.miss_write.Goals as goal
 
 pub returns-in_err-push-clause-err : goal.returns-in_err-push-clause-err
-returns-in_err-push-clause-err c = only_at_same c.args.file (Torn c.args.place (length c.args.bytes.now)) _ (torn_same c.args.place (length c.args.bytes.now))
+returns-in_err-push-clause-err c = only_at_same c.args.file (Torn c.args.place (length c.args.bytes.now)) _
+    (torn_same c.args.place (length c.args.bytes.now))
 
 pub returns-in_err-push-clause-steps : goal.returns-in_err-push-clause-steps
 returns-in_err-push-clause-steps c =
     let s = c.args.self.now in
-    steps_same c.args.file (Torn c.args.place (length c.args.bytes.now)) s.past.items c.push.new.self.items s.logs.items c.in_err-push.ensures.items (torn_same c.args.place (length c.args.bytes.now))
+    steps_same c.args.file (Torn c.args.place (length c.args.bytes.now)) s.past.items c.push.new.self.items
+    s.logs.items c.in_err-push.ensures.items (torn_same c.args.place (length c.args.bytes.now))
 
 pub returns-clause-err : goal.returns-clause-err
 returns-clause-err c =
@@ -22,7 +24,9 @@ returns-clause-err c =
     let log = c.index_mut.result.now in
     let within : c.args.file < length logs = omega (arith, c.requires, s.all, s.logs.ok.0) in
     let here : slice_get logs c.args.file ≡ Some log = get_here logs c.args.file log within c.index_mut.ensures.value in
-    read_at logs c.args.file log c.miss_write.new.self (Torn c.args.place (length c.args.bytes.now)) within here (subst (λ (bytes : List ℕ). Torn c.args.place (length c.args.bytes.now) log.content.items bytes) (sym c.miss_write.ensures.same) ((torn_same c.args.place (length c.args.bytes.now)) log.content.items))
+    read_at logs c.args.file log c.miss_write.new.self (Torn c.args.place (length c.args.bytes.now)) within here
+    (subst (λ (bytes : List ℕ). Torn c.args.place (length c.args.bytes.now) log.content.items bytes)
+    (sym c.miss_write.ensures.same) ((torn_same c.args.place (length c.args.bytes.now)) log.content.items))
 
 pub returns-clause-steps : goal.returns-clause-steps
 returns-clause-steps c =
@@ -31,4 +35,6 @@ returns-clause-steps c =
     let log = c.index_mut.result.now in
     let within : c.args.file < length logs = omega (arith, c.requires, s.all, s.logs.ok.0) in
     let here : slice_get logs c.args.file ≡ Some log = get_here logs c.args.file log within c.index_mut.ensures.value in
-    steps_at s.past.items c.push.new.self.items c.of.result logs c.args.file log c.miss_write.new.self (Torn c.args.place (length c.args.bytes.now)) c.in_ok-push.ensures.items (ap (λ (v : Vec MemoryLog Global). v.items) c.of.ensures) within here c.miss_write.ensures.crash
+    steps_at s.past.items c.push.new.self.items c.of.result logs c.args.file log c.miss_write.new.self
+    (Torn c.args.place (length c.args.bytes.now)) c.in_ok-push.ensures.items
+    (ap (λ (v : Vec MemoryLog Global). v.items) c.of.ensures) within here c.miss_write.ensures.crash

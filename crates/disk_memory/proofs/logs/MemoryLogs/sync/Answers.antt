@@ -29,5 +29,6 @@ returns-clause-steps c =
     let log = c.index_mut.result.now in
     let within : c.args.file < length logs = omega (arith, c.requires, s.all, s.logs.ok.0) in
     let here : slice_get logs c.args.file ≡ Some log = get_here logs c.args.file log within c.index_mut.ensures.value in
-    steps_at s.past.items c.push.new.self.items c.of.result logs c.args.file log c.sync.new.self Any c.in_ok-push.ensures.items (ap (λ (v : Vec MemoryLog Global). v.items) c.of.ensures) within here
+    steps_at s.past.items c.push.new.self.items c.of.result logs c.args.file log c.sync.new.self Any
+    c.in_ok-push.ensures.items (ap (λ (v : Vec MemoryLog Global). v.items) c.of.ensures) within here
     (λ new may. (redone log.pending.items log.sure.value.items, may_read log.pending.items log.sure.value.items, tt))

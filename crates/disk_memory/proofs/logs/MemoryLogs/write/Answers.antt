@@ -9,12 +9,15 @@ use Rattle.disk_memory.proofs.ResultLemmas.{on_ok, on_err, always_on_err}
 use Rattle.disk_memory.proofs.logs.MemoryLogs.write.Goals as goal
 
 pub returns-in_err-push-clause-err : goal.returns-in_err-push-clause-err
-returns-in_err-push-clause-err c = always_on_err c.from_residual.result (only_at_same c.args.file (Torn c.args.place (length c.args.bytes.now)) _ (torn_same c.args.place (length c.args.bytes.now)))
+returns-in_err-push-clause-err c = always_on_err c.from_residual.result
+    (only_at_same c.args.file (Torn c.args.place (length c.args.bytes.now)) _
+    (torn_same c.args.place (length c.args.bytes.now)))
 
 pub returns-in_err-push-clause-steps : goal.returns-in_err-push-clause-steps
 returns-in_err-push-clause-steps c =
     let s = c.args.self.now in
-    steps_same c.args.file (Torn c.args.place (length c.args.bytes.now)) s.past.items c.push.new.self.items s.logs.items c.in_err-push.ensures.items (torn_same c.args.place (length c.args.bytes.now))
+    steps_same c.args.file (Torn c.args.place (length c.args.bytes.now)) s.past.items c.push.new.self.items
+    s.logs.items c.in_err-push.ensures.items (torn_same c.args.place (length c.args.bytes.now))
 
 pub returns-clause-ok : goal.returns-clause-ok
 returns-clause-ok c =
@@ -23,7 +26,8 @@ returns-clause-ok c =
     let log = c.index_mut.result.now in
     let within : c.args.file < length logs = omega (arith, c.requires.file, s.all, s.logs.ok.0) in
     let here : slice_get logs c.args.file ≡ Some log = get_here logs c.args.file log within c.index_mut.ensures.value in
-    on_ok c.write.result (read_at logs c.args.file log c.write.new.self (Writes c.args.place c.args.bytes.now) within here) c.write.ensures.ok
+    on_ok c.write.result (read_at logs c.args.file log c.write.new.self (Writes c.args.place c.args.bytes.now) within
+    here) c.write.ensures.ok
 
 pub returns-clause-err : goal.returns-clause-err
 returns-clause-err c =
@@ -32,7 +36,10 @@ returns-clause-err c =
     let log = c.index_mut.result.now in
     let within : c.args.file < length logs = omega (arith, c.requires.file, s.all, s.logs.ok.0) in
     let here : slice_get logs c.args.file ≡ Some log = get_here logs c.args.file log within c.index_mut.ensures.value in
-    on_err c.write.result (λ (same : c.write.new.self.content.items ≡ log.content.items). read_at logs c.args.file log c.write.new.self (Torn c.args.place (length c.args.bytes.now)) within here (subst (λ (bytes : List ℕ). Torn c.args.place (length c.args.bytes.now) log.content.items bytes) (sym same) ((torn_same c.args.place (length c.args.bytes.now)) log.content.items))) c.write.ensures.err
+    on_err c.write.result (λ (same : c.write.new.self.content.items ≡ log.content.items). read_at logs c.args.file log
+    c.write.new.self (Torn c.args.place (length c.args.bytes.now)) within here
+    (subst (λ (bytes : List ℕ). Torn c.args.place (length c.args.bytes.now) log.content.items bytes) (sym same)
+    ((torn_same c.args.place (length c.args.bytes.now)) log.content.items))) c.write.ensures.err
 
 pub returns-clause-steps : goal.returns-clause-steps
 returns-clause-steps c =
@@ -41,4 +48,6 @@ returns-clause-steps c =
     let log = c.index_mut.result.now in
     let within : c.args.file < length logs = omega (arith, c.requires.file, s.all, s.logs.ok.0) in
     let here : slice_get logs c.args.file ≡ Some log = get_here logs c.args.file log within c.index_mut.ensures.value in
-    steps_at s.past.items c.push.new.self.items c.of.result logs c.args.file log c.write.new.self (Torn c.args.place (length c.args.bytes.now)) c.in_ok-push.ensures.items (ap (λ (v : Vec MemoryLog Global). v.items) c.of.ensures) within here c.write.ensures.crash
+    steps_at s.past.items c.push.new.self.items c.of.result logs c.args.file log c.write.new.self
+    (Torn c.args.place (length c.args.bytes.now)) c.in_ok-push.ensures.items
+    (ap (λ (v : Vec MemoryLog Global). v.items) c.of.ensures) within here c.write.ensures.crash

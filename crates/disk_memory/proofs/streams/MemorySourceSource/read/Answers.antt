@@ -7,6 +7,7 @@ pub returns-clause-bytes : goal.returns-clause-bytes
 returns-clause-bytes c =
     let s = c.args.self.now in
     let n = c.min-count.result in (
-      next_bytes s.at n s.bytes.items c.args.out.now c.copy_from_slice.new.self (grind (arith, common_steps)) (grind (arith, common_steps)),
+      next_bytes s.at n s.bytes.items c.args.out.now c.copy_from_slice.new.self (grind (arith, common_steps))
+          (grind (arith, common_steps)),
       λ zero room. none_left s.at n s.bytes.items zero (grind (arith, common_steps)),
     )

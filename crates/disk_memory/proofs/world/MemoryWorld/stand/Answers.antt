@@ -15,7 +15,8 @@ returns-clause-stands c =
     let bs = string_bytes c.in_ok-directory.directory in
     let sets = btree_map_updates_text bs old c.insert.new.self (Some c.args.store) c.in_ok-insert.ensures.updates in
     ap (λ (found : Option (Store MemoryDisk MemoryYard)). Some found)
-    (sets c.args.dir.now ∙ update_same bytes_eq (get_by_text old) bs (Some c.args.store) c.args.dir.now (equal_bytes bs c.args.dir.now c.in_ok-directory.ensures.ok))
+    (sets c.args.dir.now ∙ update_same bytes_eq (get_by_text old) bs (Some c.args.store) c.args.dir.now
+    (equal_bytes bs c.args.dir.now c.in_ok-directory.ensures.ok))
 
 pub returns-clause-others : goal.returns-clause-others
 returns-clause-others c = λ other apart.
@@ -23,4 +24,5 @@ returns-clause-others c = λ other apart.
     let bs = string_bytes c.in_ok-directory.directory in
     let sets = btree_map_updates_text bs old c.insert.new.self (Some c.args.store) c.in_ok-insert.ensures.updates in
     ap (λ (found : Option (Store MemoryDisk MemoryYard)). Some found)
-    (sets other ∙ update_other bytes_eq (get_by_text old) bs (Some c.args.store) other (apart_bytes bs other (λ same. apart (sym same ∙ c.in_ok-directory.ensures.ok))))
+    (sets other ∙ update_other bytes_eq (get_by_text old) bs (Some c.args.store) other
+    (apart_bytes bs other (λ same. apart (sym same ∙ c.in_ok-directory.ensures.ok))))

@@ -14,9 +14,11 @@ loop-value-preserved c =
       | in-Some w ↦
           subst (λ (ks : Kinds). FindAlike (listed ks ++ rest) (kinds_of c.args.values.now)) (sym w.kinds-is)
           (grown _ (listed c.loop-value.kinds) w.in-Some.kind rest _ _ w.with_kind-kinds.ensures
-          (kinds_from items c.loop-value.value-index c.value-item.result (Some w.in-Some.kind) c.loop-value-test.true c.value-item.is (sym w.in-Some.ensures)) c.loop-value.invariant)
+          (kinds_from items c.loop-value.value-index c.value-item.result (Some w.in-Some.kind) c.loop-value-test.true
+          c.value-item.is (sym w.in-Some.ensures)) c.loop-value.invariant)
       | in_default w ↦
           subst (λ (ks : Kinds). FindAlike (listed ks ++ rest) (kinds_of c.args.values.now)) (sym w.kinds-is)
           (subst (λ ks. FindAlike (listed c.loop-value.kinds ++ ks) (kinds_of c.args.values.now))
-          (kinds_from items c.loop-value.value-index c.value-item.result None c.loop-value-test.true c.value-item.is (sym c.kind_of.ensures ∙ w.in_default.is)) c.loop-value.invariant)
+          (kinds_from items c.loop-value.value-index c.value-item.result None c.loop-value-test.true c.value-item.is
+          (sym c.kind_of.ensures ∙ w.in_default.is)) c.loop-value.invariant)
     ]

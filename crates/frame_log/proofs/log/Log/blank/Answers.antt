@@ -66,7 +66,8 @@ returns-clause-empty g c told =
         at_end = c.ending.ensures.place.1;
         images = λ d left.
             let (e, possible, is) = cut.each d (laws.counts_now c.keep.new.disk _ d cut.later left) in
-            let has = no_frames (d c.args.file) (closed_cut (e c.args.file) (d c.args.file) (closed e possible) is) (one d left) in
+            let has = no_frames (d c.args.file) (closed_cut (e c.args.file) (d c.args.file) (closed e possible) is)
+            (one d left) in
             subst (λ (s : State). Leaves s [] [] (d c.ending.result.file)) (sym c.ending.ensures.up)
             (subst (λ n. HasFrames [] (d n)) (sym c.ending.ensures.place.0) has);
       };

@@ -9,7 +9,8 @@ returns-then-not-lets-clause-back c =
     let n = c.args.self.now.clients_returned in
     let old = c.index_mut-seat.result.now in
     let seat : ClientSeat = record { out = old.out; back = Some c.args.client } in
-    inr (client_returns seats n seat old (room (λ (s : ClientSeat). s.back) (λ (s : ClientSeat). s.out.value) seats n c.requires) c.index_mut-seat.ensures.value refl)
+    inr (client_returns seats n seat old (room (λ (s : ClientSeat). s.back) (λ (s : ClientSeat). s.out.value) seats n
+    c.requires) c.index_mut-seat.ensures.value refl)
 
 pub returns-clause-back : goal.returns-clause-back
 returns-clause-back c =
@@ -17,4 +18,5 @@ returns-clause-back c =
     let n = c.args.self.now.clients_returned in
     let old = c.index_mut-seat.result.now in
     let seat : ClientSeat = record { out = old.out; back = Some c.args.client } in
-    client_returns seats n seat old (room (λ (s : ClientSeat). s.back) (λ (s : ClientSeat). s.out.value) seats n c.requires) c.index_mut-seat.ensures.value refl
+    client_returns seats n seat old (room (λ (s : ClientSeat). s.back) (λ (s : ClientSeat). s.out.value) seats n
+    c.requires) c.index_mut-seat.ensures.value refl

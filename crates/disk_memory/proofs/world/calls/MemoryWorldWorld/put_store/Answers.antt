@@ -14,7 +14,9 @@ returns-then-not-lets-clause-back c =
     let n = c.args.self.now.stores_returned in
     let old = c.index_mut-seat.result.now in
     let seat : StoreSeat = record { directory = old.directory; out = old.out; back = Some c.of.result } in
-    inr (store_returns seats n seat old c.args.store (room (λ (s : StoreSeat). option_map (λ b. b.value) s.back) (λ (s : StoreSeat). s.out.value) seats n c.requires) c.index_mut-seat.ensures.value refl (ap (λ (s : Store MemoryDisk MemoryYard). Some s) c.of.ensures))
+    inr (store_returns seats n seat old c.args.store (room (λ (s : StoreSeat). option_map (λ b. b.value) s.back)
+    (λ (s : StoreSeat). s.out.value) seats n c.requires) c.index_mut-seat.ensures.value refl
+    (ap (λ (s : Store MemoryDisk MemoryYard). Some s) c.of.ensures))
 
 pub returns-then-not-lets-clause-directories : goal.returns-then-not-lets-clause-directories
 returns-then-not-lets-clause-directories c =
@@ -30,7 +32,9 @@ returns-in_default-clause-back c =
     let n = c.args.self.now.stores_returned in
     let old = c.index_mut-seat.result.now in
     let seat : StoreSeat = record { directory = old.directory; out = old.out; back = Some c.of.result } in
-    inr (store_returns seats n seat old c.args.store (room (λ (s : StoreSeat). option_map (λ b. b.value) s.back) (λ (s : StoreSeat). s.out.value) seats n c.requires) c.index_mut-seat.ensures.value refl (ap (λ (s : Store MemoryDisk MemoryYard). Some s) c.of.ensures))
+    inr (store_returns seats n seat old c.args.store (room (λ (s : StoreSeat). option_map (λ b. b.value) s.back)
+    (λ (s : StoreSeat). s.out.value) seats n c.requires) c.index_mut-seat.ensures.value refl
+    (ap (λ (s : Store MemoryDisk MemoryYard). Some s) c.of.ensures))
 
 pub returns-in_default-clause-directories : goal.returns-in_default-clause-directories
 returns-in_default-clause-directories c =
@@ -46,7 +50,9 @@ returns-in-Ok-insert-clause-back c =
     let n = c.args.self.now.stores_returned in
     let old = c.index_mut-seat.result.now in
     let seat : StoreSeat = record { directory = old.directory; out = old.out; back = Some c.of.result } in
-    store_returns seats n seat old c.args.store (room (λ (s : StoreSeat). option_map (λ b. b.value) s.back) (λ (s : StoreSeat). s.out.value) seats n c.requires) c.index_mut-seat.ensures.value refl (ap (λ (s : Store MemoryDisk MemoryYard). Some s) c.of.ensures)
+    store_returns seats n seat old c.args.store (room (λ (s : StoreSeat). option_map (λ b. b.value) s.back)
+    (λ (s : StoreSeat). s.out.value) seats n c.requires) c.index_mut-seat.ensures.value refl
+    (ap (λ (s : Store MemoryDisk MemoryYard). Some s) c.of.ensures)
 
 pub returns-in-Ok-insert-clause-directories : goal.returns-in-Ok-insert-clause-directories
 returns-in-Ok-insert-clause-directories c =
@@ -62,7 +68,9 @@ returns-clause-back c =
     let n = c.args.self.now.stores_returned in
     let old = c.index_mut-seat.result.now in
     let seat : StoreSeat = record { directory = old.directory; out = old.out; back = Some c.of.result } in
-    inr (store_returns seats n seat old c.args.store (room (λ (s : StoreSeat). option_map (λ b. b.value) s.back) (λ (s : StoreSeat). s.out.value) seats n c.requires) c.index_mut-seat.ensures.value refl (ap (λ (s : Store MemoryDisk MemoryYard). Some s) c.of.ensures))
+    inr (store_returns seats n seat old c.args.store (room (λ (s : StoreSeat). option_map (λ b. b.value) s.back)
+    (λ (s : StoreSeat). s.out.value) seats n c.requires) c.index_mut-seat.ensures.value refl
+    (ap (λ (s : Store MemoryDisk MemoryYard). Some s) c.of.ensures))
 
 pub returns-clause-directories : goal.returns-clause-directories
 returns-clause-directories c =
@@ -79,7 +87,8 @@ returns-in-Ok-insert-clause-stands c =
     let dir = string_bytes c.in-Ok.directory in
     let sets = btree_map_updates_text dir c.args.self.now.directories c.insert.new.self _ c.in-Ok-insert.ensures.updates in
     let is_due = room (λ (s : StoreSeat). option_map (λ b. b.value) s.back) (λ (s : StoreSeat). s.out.value) seats n c.requires in
-    stands_there seats n c.index_mut-seat.result.now dir c.args.self.now.directories c.insert.new.self c.args.store is_due c.index_mut-seat.ensures.value c.in-Ok.ensures.cases sets
+    stands_there seats n c.index_mut-seat.result.now dir c.args.self.now.directories c.insert.new.self c.args.store
+    is_due c.index_mut-seat.ensures.value c.in-Ok.ensures.cases sets
 
 pub returns-in-Ok-insert-clause-others : goal.returns-in-Ok-insert-clause-others
 returns-in-Ok-insert-clause-others c =
@@ -88,4 +97,5 @@ returns-in-Ok-insert-clause-others c =
     let dir = string_bytes c.in-Ok.directory in
     let sets = btree_map_updates_text dir c.args.self.now.directories c.insert.new.self _ c.in-Ok-insert.ensures.updates in
     let is_due = room (λ (s : StoreSeat). option_map (λ b. b.value) s.back) (λ (s : StoreSeat). s.out.value) seats n c.requires in
-    others_stand seats n c.index_mut-seat.result.now dir c.args.self.now.directories c.insert.new.self c.args.store is_due c.index_mut-seat.ensures.value c.in-Ok.ensures.cases sets
+    others_stand seats n c.index_mut-seat.result.now dir c.args.self.now.directories c.insert.new.self c.args.store
+    is_due c.index_mut-seat.ensures.value c.in-Ok.ensures.cases sets

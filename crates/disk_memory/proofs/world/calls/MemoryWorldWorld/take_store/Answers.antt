@@ -11,4 +11,5 @@ returns-clause-others c = λ other apart.
     let old = c.args.self.now.directories in
     let dir = c.args.dir.now in
     let sets = btree_map_updates_text dir old c.remove.new.self None c.remove.ensures.updates in
-    ap (λ found. Some found) (sets other ∙ update_other bytes_eq (get_by_text old) dir None other (apart_bytes dir other (λ same. apart (sym same))))
+    ap (λ found. Some found) (sets other ∙ update_other bytes_eq (get_by_text old) dir None other
+    (apart_bytes dir other (λ same. apart (sym same))))
