@@ -12,8 +12,6 @@ mod refusal;
 mod refusing;
 mod scan;
 mod search;
-#[cfg(test)]
-mod tests;
 mod words;
 mod writing;
 

@@ -8,8 +8,6 @@ mod reader;
 mod service;
 mod serving;
 mod step;
-#[cfg(test)]
-mod tests;
 
 pub use service::Service;
 pub use serving::session;

@@ -6,8 +6,6 @@ mod program;
 mod reporting;
 mod serving;
 mod status;
-#[cfg(test)]
-mod tests;
 mod words;
 
 pub use program::run;

@@ -14,8 +14,6 @@ mod plan;
 mod port;
 mod store;
 mod streams;
-#[cfg(test)]
-mod tests;
 mod world;
 mod yard;
 

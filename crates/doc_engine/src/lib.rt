@@ -16,6 +16,3 @@ pub use engine::Engine;
 pub use laws::standing_is_shown;
 pub use refusal::{CommitRefusal, OpenRefused, OpenWhy, Pending};
 pub use snapshot::Snapshot;
-
-#[cfg(test)]
-mod tests;

@@ -32,28 +32,46 @@ fn uris(rt: HostRuntime) -> Result<(), Fail> {
     Ok(())
 }
 
+fn refusal_of_names(alloc: Global, names: &[&str]) -> Result<Option<DocRefusal>, AllocError> {
+    let names = texts(alloc, names)?;
+    refusal_of(alloc, "/a", names, Node::Null)
+}
+
+/// The refusal of four names, the last of so many bytes.
+fn refusal_of_long(alloc: Global, length: usize) -> Result<Option<DocRefusal>, AllocError> {
+    let last = long_text(alloc, length)?;
+    refusal_of_names(alloc, &["A", "B", "C", last.as_str()])
+}
+
+/// The refusal of so many names.
+fn refusal_of_many(alloc: Global, count: usize) -> Result<Option<DocRefusal>, AllocError> {
+    let names = growing_texts(alloc, count)?;
+    refusal_of(alloc, "/a", names, Node::Null)
+}
+
+/// The refusals of what there may be at most, and of one more.
+type Refusals = (Option<DocRefusal>, Option<DocRefusal>);
+
+fn longest(alloc: Global) -> Result<Refusals, AllocError> {
+    Ok((refusal_of_long(alloc, 1024)?, refusal_of_long(alloc, 1025)?))
+}
+
+fn most(alloc: Global) -> Result<Refusals, AllocError> {
+    Ok((refusal_of_many(alloc, 64)?, refusal_of_many(alloc, 65)?))
+}
+
 #[test]
 fn collections(rt: HostRuntime) -> Result<(), Fail> {
-    let most = long_text(rt.alloc(), 1024)?;
-    let more = long_text(rt.alloc(), 1025)?;
     for (names, wanted) in [
         ([" ", "Z", "a", "é"], None),
         (["a", "c", "b", "d"], Some(DocRefusal::Collections)),
         (["a", "b", "b", "c"], Some(DocRefusal::Collections)),
         (["", "a", "b", "c"], Some(DocRefusal::Collections)),
-        (["A", "B", "C", most.as_str()], None),
-        (
-            ["A", "B", "C", more.as_str()],
-            Some(DocRefusal::Collections),
-        ),
     ] {
-        let names = texts(rt.alloc(), names.as_slice())?;
-        assert_eq!(rt; refusal_of(rt.alloc(), "/a", names, Node::Null)?, wanted);
+        assert_eq!(rt; refusal_of_names(rt.alloc(), names.as_slice())?, wanted);
     }
-    for (count, wanted) in [(64, None), (65, Some(DocRefusal::Collections))] {
-        let names = growing_texts(rt.alloc(), count)?;
-        assert_eq!(rt; refusal_of(rt.alloc(), "/a", names, Node::Null)?, wanted);
-    }
+    let above = (None, Some(DocRefusal::Collections));
+    assert_eq!(rt; (longest(rt.alloc())?, most(rt.alloc())?), (above, above));
     Ok(())
 }
 

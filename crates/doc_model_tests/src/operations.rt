@@ -29,6 +29,11 @@ fn removals(alloc: Global, count: usize) -> Result<Vec<Op>, AllocError> {
     Ok(list)
 }
 
+fn add_put(alloc: Global, list: &mut Vec<Op>, size: usize) -> Result<(), Fail> {
+    let op = put(alloc, size)?;
+    Ok(list.push(op)?)
+}
+
 fn has_uri(op: &Op) -> bool
     ensures { result ≡ removes_uri op.now }
 {
@@ -59,23 +64,34 @@ fn counts(rt: HostRuntime) -> Result<(), Fail> {
     Ok(())
 }
 
+/// As many operations as there may be, of which two put documents: one of this size, one of 2^23.
+fn most(alloc: Global, size: usize) -> Result<Vec<Op>, Fail> {
+    let mut list = removals(alloc, 998)?;
+    add_put(alloc, &mut list, size)?;
+    add_put(alloc, &mut list, 8_388_608)?;
+    Ok(list)
+}
+
 #[test]
 fn sizes(rt: HostRuntime) -> Result<(), Fail> {
     // two documents of 2^23, or one byte more; removals have no size
     for (size, wanted) in [(8_388_608, None), (8_388_609, Some(OpsRefusal::Size))] {
-        let mut list = removals(rt.alloc(), 998)?;
-        list.push(put(rt.alloc(), size)?)?;
-        list.push(put(rt.alloc(), 8_388_608)?)?;
+        let list = most(rt.alloc(), size)?;
         assert!(rt; have_uris(&list));
         assert_eq!(rt; Ops::new(list).err(), wanted, "at {size}");
     }
     Ok(())
 }
 
+fn removal_and_put(alloc: Global) -> Result<Vec<Op>, Fail> {
+    let mut list = removals(alloc, 1)?;
+    add_put(alloc, &mut list, 9)?;
+    Ok(list)
+}
+
 /// A copy of a removal and a put.
 fn copied(alloc: Global) -> Result<Ops, Fail> {
-    let mut list = removals(alloc, 1)?;
-    list.push(put(alloc, 9)?)?;
+    let list = removal_and_put(alloc)?;
     if !have_uris(&list) {
         return Err("no URI")?;
     }

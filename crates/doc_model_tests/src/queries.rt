@@ -98,15 +98,30 @@ fn prop_value(alloc: Global) -> Result<Query, AllocError> {
     })
 }
 
-/// A query of 17 parts and so many more.
-fn counted(alloc: Global, more: usize) -> Result<Query, AllocError> {
+/// A query of 2 URIs and itself.
+fn directory(alloc: Global) -> Result<Query, AllocError> {
     let uris = alike(alloc, 2)?;
     let infinite = false;
-    let mut queries = Items::new(alloc);
+    Ok(Query::Directory { uris, infinite })
+}
+
+/// Adds queries of 2 and of 4 parts that hold others.
+fn add_holders(alloc: Global, queries: &mut Queries) -> Result<(), AllocError> {
     queries.push(not(alloc, Query::True)?)?;
-    queries.push(near(alloc, Query::Or(Items::new(alloc)))?)?;
+    queries.push(near(alloc, Query::Or(Items::new(alloc)))?)
+}
+
+/// Adds queries of 6 and of 3 parts that hold no others.
+fn add_leaves(alloc: Global, queries: &mut Queries) -> Result<(), AllocError> {
     queries.push(prop_value(alloc)?)?;
-    queries.push(Query::Directory { uris, infinite })?;
+    queries.push(directory(alloc)?)
+}
+
+/// A query of 17 parts and so many more.
+fn counted(alloc: Global, more: usize) -> Result<Query, AllocError> {
+    let mut queries = Items::new(alloc);
+    add_holders(alloc, &mut queries)?;
+    add_leaves(alloc, &mut queries)?;
     queries.push(Query::DocUri(alike(alloc, more)?))?;
     Ok(Query::And(queries))
 }

@@ -3,8 +3,6 @@
 
 mod folding;
 mod spans;
-#[cfg(test)]
-mod tests;
 mod word_char;
 mod word_lists;
 

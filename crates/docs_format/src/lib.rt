@@ -18,6 +18,3 @@ pub use laws::{
 pub use reader::Reader;
 pub use reading::{decode, document};
 pub use writing::{encode, put_count, put_document, put_kind, put_long, put_text};
-
-#[cfg(test)]
-mod tests;

@@ -4,7 +4,5 @@
 mod answering;
 mod replying;
 mod serving;
-#[cfg(test)]
-mod tests;
 
 pub use serving::serve;

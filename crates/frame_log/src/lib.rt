@@ -9,8 +9,6 @@ mod reading;
 mod refusal;
 mod scanning;
 mod state;
-#[cfg(test)]
-mod tests;
 
 pub use frame::{CLOSED, Frame, OPEN};
 pub use laws::{bytes_say_one_thing, other_logs_stand};

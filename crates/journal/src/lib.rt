@@ -9,8 +9,6 @@ mod reading;
 mod refusal;
 mod root_logs;
 mod syncing;
-#[cfg(test)]
-mod tests;
 mod trimming;
 
 pub use journal::Journal;

@@ -22,6 +22,3 @@ pub use laws::{entries_are_read, entries_end_early, roots_are_read, roots_end_ea
 pub use root::{PartFiles, Root};
 pub use root_reading::read_root;
 pub use root_writing::root_body;
-
-#[cfg(test)]
-mod tests;

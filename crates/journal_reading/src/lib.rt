@@ -17,6 +17,3 @@ pub use newest::{Newest, newest_root};
 pub use replay::{Replay, replay_journals};
 pub use roots::roots_of;
 pub use unread::{Misplaced, Unread};
-
-#[cfg(test)]
-mod tests;

@@ -20,6 +20,3 @@ mod writing;
 pub use bad::JsonBad;
 pub use reading::read;
 pub use writing::write;
-
-#[cfg(test)]
-mod tests;

@@ -5,8 +5,6 @@
 mod conflict;
 mod documents;
 mod staged;
-#[cfg(test)]
-mod tests;
 mod twice;
 
 pub use conflict::Conflict;

@@ -8,8 +8,6 @@ mod forgets;
 mod history;
 mod reads;
 mod searches;
-#[cfg(test)]
-mod tests;
 
 pub use database::Database;
 pub use history::History;

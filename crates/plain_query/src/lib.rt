@@ -11,8 +11,6 @@ mod meanings;
 mod nearness;
 mod scalar_list;
 mod string_list;
-#[cfg(test)]
-mod tests;
 mod text_bounding;
 mod text_starts;
 mod values;

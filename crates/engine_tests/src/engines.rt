@@ -1,0 +1,131 @@
+// Commits, the bytes that they leave, crashes, and directories that are opened again.
+ghost use Rattle.std.specs.Prelude.{◌≡◌, [], IfOk, IsTrue};
+ghost use Rattle.doc_model.specs.Operations.{removes_uri};
+
+mod bytes;
+mod commits;
+mod crashes;
+mod opening;
+
+use disk_memory::{MemoryDisk, MemoryYard, Meter, Plan, blank_logs};
+use doc_engine::{CommitRefusal, Engine};
+use doc_model::{Document, Indexes, Node, Op, Ops, Settings, Text, Texts};
+use sqlite_items::Items;
+use std::alloc::{AllocError, Global};
+use std::test::Fail;
+
+type MemoryEngine = Engine<MemoryDisk, MemoryYard>;
+
+fn meter(alloc: Global, failing: &[u64], stop: Option<u64>) -> Result<Meter, AllocError> {
+    let failing = failing.to_vec(alloc)?;
+    Meter::new(alloc, Plan { failing, stop })
+}
+
+// One under which no call fails.
+fn smooth(alloc: Global) -> Result<Meter, AllocError> {
+    meter(alloc, &[], None)
+}
+
+fn plain_settings(alloc: Global) -> Settings
+    ensures { result.indexes ≡ [] }
+{
+    Settings {
+        indexes: Indexes::none(alloc),
+        save_at: 10_000,
+        merge_at: 8,
+    }
+}
+
+// An engine over a directory that was made.
+fn created(alloc: Global, meter: &Meter) -> Result<MemoryEngine, Fail> {
+    let disk = MemoryDisk::new(alloc, blank_logs(alloc)?, meter.share()?)?;
+    let yard = MemoryYard::new(alloc, meter.share()?);
+    match Engine::create(alloc, disk, yard, plain_settings(alloc)) {
+        Ok(engine) => Ok(engine),
+        Err(_) => Err("it isn't made")?,
+    }
+}
+
+// One of which no call fails.
+fn empty(alloc: Global) -> Result<MemoryEngine, Fail> {
+    created(alloc, &smooth(alloc)?)
+}
+
+// So many bytes of the first journal's last change.
+fn of_the_first(alloc: Global, landed: u64) -> Result<Vec<Vec<u64>>, AllocError> {
+    let first = [landed].to_vec(alloc)?;
+    let mut logs = Vec::new(alloc);
+    logs.push(first)?;
+    Ok(logs)
+}
+
+// The disk that a crash leaves, where so many bytes of the first journal's last change have landed.
+fn crashed(alloc: Global, disk: &MemoryDisk, landed: u64) -> Result<MemoryDisk, AllocError> {
+    let logs = of_the_first(alloc, landed)?;
+    let meter = smooth(alloc)?;
+    disk.after_crash(alloc, &logs, meter)
+}
+
+// An engine over that disk.
+fn reopened(alloc: Global, disk: &MemoryDisk, landed: u64) -> Result<MemoryEngine, Fail> {
+    opened(alloc, crashed(alloc, disk, landed)?)
+}
+
+fn opened(alloc: Global, disk: MemoryDisk) -> Result<MemoryEngine, Fail> {
+    let yard = MemoryYard::new(alloc, smooth(alloc)?);
+    match Engine::open(alloc, disk, yard) {
+        Ok(engine) => Ok(engine),
+        Err(_) => Err("it isn't opened")?,
+    }
+}
+
+// The member `"t":TEXT`.
+fn member(alloc: Global, text: &str) -> Result<(Text, Node), Fail> {
+    let name = Text::from_str(alloc, "t")?;
+    let text = Text::from_str(alloc, text)?;
+    Ok((name, Node::Text(text)))
+}
+
+// The object `{"t":TEXT}`.
+fn object(alloc: Global, text: &str) -> Result<Node, Fail> {
+    let member = member(alloc, text)?;
+    let mut members = Items::new(alloc);
+    members.push(member)?;
+    Ok(Node::Members(members))
+}
+
+// A document without collections.
+fn document(alloc: Global, uri: &str, root: Node) -> Result<Document, Fail> {
+    let uri = Text::from_str(alloc, uri)?;
+    Ok(Document::new(alloc, uri, Texts::new(alloc), root)?)
+}
+
+fn put(alloc: Global, uri: &str, root: Node, expect: Option<u64>) -> Result<Op, Fail>
+    ensures { IfOk result (λ op. IsTrue (removes_uri op)) }
+{
+    let document = document(alloc, uri, root)?;
+    Ok(Op::Put { document, expect })
+}
+
+// A commit that puts one document.
+fn single(alloc: Global, uri: &str, root: Node, expect: Option<u64>) -> Result<Ops, Fail> {
+    let op = put(alloc, uri, root, expect)?;
+    let mut list = Vec::new(alloc);
+    list.push(op)?;
+    Ok(Ops::new(list)?)
+}
+
+// A commit that puts `{"t":TEXT}`.
+fn one(alloc: Global, uri: &str, text: &str, expect: Option<u64>) -> Result<Ops, Fail> {
+    single(alloc, uri, object(alloc, text)?, expect)
+}
+
+// What an engine answers to that commit.
+fn commit(
+    alloc: Global,
+    engine: &mut MemoryEngine,
+    (uri, text): (&str, &str),
+    expect: Option<u64>,
+) -> Result<Result<u64, CommitRefusal>, Fail> {
+    Ok(engine.commit(one(alloc, uri, text, expect)?))
+}

@@ -1,0 +1,5 @@
+//! Tests of the engine, over disks in memory.
+#![tactic(auto)]
+
+#[cfg(test)]
+mod engines;

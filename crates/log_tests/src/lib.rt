@@ -1,0 +1,11 @@
+//! Tests of the disk in memory, and of the logs over it.
+#![tactic(auto)]
+
+#[cfg(test)]
+mod contents;
+#[cfg(test)]
+mod disks;
+#[cfg(test)]
+mod frames;
+#[cfg(test)]
+mod journals;

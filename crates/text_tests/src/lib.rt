@@ -1,0 +1,11 @@
+//! Tests of the texts and bytes that are read and written.
+#![tactic(auto)]
+
+#[cfg(test)]
+mod bodies;
+#[cfg(test)]
+mod documents;
+#[cfg(test)]
+mod json;
+#[cfg(test)]
+mod lines;
