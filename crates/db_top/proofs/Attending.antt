@@ -1,10 +1,10 @@
 -- A client that was served with a store, or not.
-use Rattle.std.proofs.Common.{◌≡◌, ◌≢◌, ◌≤◌, ℕ, Bool, IsTrue, List, Option, Some, None, IfSome, IsSome, inl, inr, refl}
+use Rattle.std.proofs.Common.{◌≡◌, ◌≤◌, ℕ, Bool, IsTrue, List, Option, Some, None, IfSome, IsSome, inl, refl}
 use Rattle.std.proofs.Common.{sym, subst, subst₂, ◌∙◌, arith}
 use Rattle.std.specs.Io.KnownBytes.{Appends, Consumes, IsAtEnd}
 use Rattle.db_top.proofs.Keeping.{has_turns, session_of}
 use Rattle.db_top.specs.Serving.{Attends, HoldsSession, Serves}
-use Rattle.db_top.specs.Statuses.{refused_as, status_of}
+use Rattle.db_top.specs.Statuses.{status_of}
 use Rattle.db_top.specs.declared.status.Status.{Status}
 use Rattle.disk_model.specs.Causes.{Rose}
 use Rattle.disk_model.specs.declared.disk.Disk
@@ -16,10 +16,8 @@ use Rattle.disk_model.specs.declared.yard.Build
 use Rattle.disk_model.specs.declared.yard.SealedFile
 use Rattle.disk_model.specs.declared.yard.Yard
 use Rattle.doc_engine.specs.Held.{IsAt, disk_of, held_of, journal_of, yard_of}
-use Rattle.doc_engine.specs.Opening.{NotOpened, Opens, begins, longest_of}
+use Rattle.doc_engine.specs.Opening.{Opens, begins, longest_of}
 use Rattle.doc_engine.specs.declared.engine.Engine.{Engine}
-use Rattle.doc_engine.specs.declared.refusal.OpenWhy.{OpenWhy}
-use Rattle.doc_engine.specs.declared.refusal.OpenWhy.TheVariants.{AlreadyThere, Fault}
 use Rattle.doc_meaning.specs.History.{Base, IsBase}
 use Rattle.engine_session.specs.Attended.{Attended}
 use Rattle.engine_session.specs.Ended.{HasEnded}
@@ -111,29 +109,3 @@ module _ {D Y F B I O P : Type 0} (of_disk : Disk.Ghosts D) {of_yard : Yard.Ghos
       later = subst (λ (d : D). of_disk.faults before.disk ≤ of_disk.faults d) (sym disk)
           (omega (arith, has_opened.later, has_served.later));
     }
-
--- a store that wasn't opened comes back, and the client isn't asked
-pub serves_refused : {D Y I O P : Type 0} (disk : Disk.Ghosts D) (source : Source.Ghosts I) (sink : Sink.Ghosts O)
-    (before after : Store D Y) (client : Client I O P) (why : OpenWhy) (result : Status)
-    → IfSome (disk.seen before.disk) (λ image. NotOpened image why)
-    → why ≢ AlreadyThere
-    → (IsSome (disk.seen before.disk)
-    → KeepsShown disk.may_leave disk.moment disk.left_since before.disk after.disk)
-    → (why ≡ Fault → Rose (disk.faults before.disk) (disk.faults after.disk))
-    → after.yard ≡ before.yard
-    → disk.faults before.disk ≤ disk.faults after.disk
-    → result ≡ refused_as why
-    → Serves disk source sink before after client client result
-serves_refused disk source sink before after client why result cause kind keeps rose yard later ends = record {
-  serves = inr (record {
-    why = why;
-    kind = kind;
-    cause = cause;
-    keeps = keeps;
-    rose = rose;
-    unasked = refl;
-    ends = ends;
-  });
-  yard = yard;
-  later = later;
-}

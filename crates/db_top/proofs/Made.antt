@@ -11,7 +11,7 @@ use Rattle.disk_model.specs.declared.disk.Disk
 use Rattle.disk_model.specs.declared.world.Store.{Store}
 use Rattle.doc_engine.proofs.Standings.{standing_is_shown}
 use Rattle.doc_engine.specs.Held.{Held}
-use Rattle.doc_engine.specs.Opening.{Creates, IsUnfit, NotCreated, begins}
+use Rattle.doc_engine.specs.Opening.{Creates, NotCreated, begins}
 use Rattle.doc_engine.specs.declared.refusal.OpenWhy.{OpenWhy}
 use Rattle.doc_engine.specs.declared.refusal.OpenWhy.TheVariants.{Fault, NotThere}
 use Rattle.doc_meaning.specs.History.{BaseSettings, empty_base, shown}
@@ -78,7 +78,7 @@ module _ {D Y : Type 0} (disk : Disk.Ghosts D) (before : Store D Y) where
   pub makes_refused : (after : Store D Y) (why : OpenWhy) (result : Status) (settings : BaseSettings)
       → why ≢ NotThere
       → IfSome (disk.seen before.disk) (λ image. NotCreated image why)
-      → (IsUnfit why → OnlyRead disk.seen disk.may_leave disk.moment disk.left_since before.disk after.disk)
+      → (why ≢ Fault → OnlyRead disk.seen disk.may_leave disk.moment disk.left_since before.disk after.disk)
       → (why ≡ Fault → Rose (disk.faults before.disk) (disk.faults after.disk))
       → (IsSome (disk.seen before.disk)
       → MakesShown disk.may_leave disk.moment disk.left_since settings before.disk after.disk)

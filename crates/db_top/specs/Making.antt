@@ -7,7 +7,7 @@ use Rattle.disk_model.specs.declared.world.Store.{Store}
 use Rattle.db_top.specs.Statuses.{refused_as}
 use Rattle.db_top.specs.declared.status.Status.{Status}
 use Rattle.db_top.specs.declared.status.Status.TheVariants as status
-use Rattle.doc_engine.specs.Opening.{IsUnfit, NotCreated}
+use Rattle.doc_engine.specs.Opening.{NotCreated}
 use Rattle.doc_engine.specs.declared.refusal.OpenWhy.{OpenWhy}
 use Rattle.doc_engine.specs.declared.refusal.OpenWhy.TheVariants.{Fault, NotThere}
 use Rattle.doc_meaning.specs.History.{BaseSettings, empty_base}
@@ -28,12 +28,12 @@ module _ {D : Type 0} (disk : Disk.Ghosts D) where
     pub told : IsSome (disk.seen after)
     pub shows : (c : Image) → disk.may_leave after c → Shows c (empty_base default_settings)
 
-  -- a directory wasn't made, for this reason; what was refused for what it holds was only read
+  -- a directory wasn't made, for this reason; unless the disk failed it was only read
   pub record RefusesToMake (before after : D) (result : Status) : Type 0 where
     pub why : OpenWhy
     pub kind : why ≢ NotThere
     pub cause : IfSome (disk.seen before) (λ image. NotCreated image why)
-    pub kept : IsUnfit why → OnlyRead disk.seen disk.may_leave disk.moment disk.left_since before after
+    pub kept : why ≢ Fault → OnlyRead disk.seen disk.may_leave disk.moment disk.left_since before after
     pub rose : why ≡ Fault → Rose (disk.faults before) (disk.faults after)
     pub ends : result ≡ refused_as why
 

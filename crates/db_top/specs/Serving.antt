@@ -13,11 +13,12 @@ use Rattle.db_top.specs.declared.status.Status.{Status}
 use Rattle.doc_engine.specs.Opening.{NotOpened, longest_of}
 use Rattle.doc_engine.specs.Standing.{KeepsFormat, ShowsWith}
 use Rattle.doc_engine.specs.declared.refusal.OpenWhy.{OpenWhy}
-use Rattle.doc_engine.specs.declared.refusal.OpenWhy.TheVariants.{AlreadyThere, Fault}
+use Rattle.doc_engine.specs.declared.refusal.OpenWhy.TheVariants.{AlreadyThere, Fault, Memory}
 use Rattle.doc_meaning.specs.History.{Base}
 use Rattle.engine_session.specs.Attended.{AreCounted}
 use Rattle.engine_session.specs.Ended.{HasEnded}
 use Rattle.engine_session.specs.Pending.{Acknowledges, ShowsFrom, pending_of}
+use Rattle.frame_log.specs.Standing.{OnlyRead}
 use Rattle.journal.specs.Opening.{KeepsShown, ShowsAs}
 use Rattle.journal_meaning.specs.Shown.{Shows}
 use Rattle.transcript.specs.Legal.{AreLegal}
@@ -72,12 +73,15 @@ module _ {D I O P : Type 0} (disk : Disk.Ghosts D) (source : Source.Ghosts I) (s
         → HasTurns disk base (longest_of image) before after session)
     pub ends : result ≡ status_of session.how
 
-  -- the directory wasn't opened, for this reason, and the client not asked; each image shows what one showed before
+  -- the directory wasn't opened, for this reason, and the client not asked; each image shows what one showed before,
+  -- and what was refused for what it holds was only read
   pub record Refuses (before after : D) (given back : Client I O P) (result : Status) : Type 0 where
     pub why : OpenWhy
     pub kind : why ≢ AlreadyThere
     pub cause : IfSome (disk.seen before) (λ image. NotOpened image why)
     pub keeps : IsSome (disk.seen before) → KeepsShown disk.may_leave disk.moment disk.left_since before after
+    pub kept : IsSome (disk.seen before) → why ≢ Fault → why ≢ Memory
+        → OnlyRead disk.seen disk.may_leave disk.moment disk.left_since before after
     pub rose : why ≡ Fault → Rose (disk.faults before) (disk.faults after)
     pub unasked : back ≡ given
     pub ends : result ≡ refused_as why

@@ -51,14 +51,7 @@ NotCreated image (why.Damaged file place) = AreDamagedRoots image file place
 NotCreated image why.Fault = ⊤
 NotCreated image why.Memory = ⊤
 
--- a directory was refused for what it holds
-abbrev pub IsUnfit : OpenWhy → Type 0
-IsUnfit why.AlreadyThere = Unit {0}
-IsUnfit why.NotThere = Unit {0}
-IsUnfit (why.Damaged file place) = Unit {0}
-IsUnfit why.Fault = ⊥
-IsUnfit why.Memory = ⊥
-
+-- a refusal of making the logs as one of the directory
 abbrev pub made_why : MakeRefusal → OpenWhy
 made_why make.AlreadyThere = why.AlreadyThere
 made_why (make.Damaged file place) = why.Damaged file place

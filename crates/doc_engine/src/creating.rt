@@ -1,7 +1,7 @@
 // Making a directory.
 ghost use Rattle.std.specs.Prelude.{◌≡◌, ◌≢◌, ◌≤◌, None, IsSome, IfSome, IfOk, IfErr};
 ghost use Rattle.disk_model.specs.Causes.{Rose};
-ghost use Rattle.doc_engine.specs.Opening.{IsUnfit, NotCreated};
+ghost use Rattle.doc_engine.specs.Opening.{NotCreated};
 ghost use Rattle.doc_engine.specs.declared.refusal.OpenWhy.TheVariants.{Fault, NotThere};
 ghost use Rattle.doc_meaning.specs.History.{settings_of};
 ghost use Rattle.frame_log.specs.Standing.{OnlyRead};
@@ -24,8 +24,6 @@ impl<D: Disk, Y: Yard> Engine<D, Y> {
     ghost use Rattle.doc_engine.specs.Opening.{Creates, disk_after, yard_after};
 
     /// Makes an empty database of these settings in a directory whose root logs have no root, whatever else it holds.
-    ///
-    /// All memory is taken before anything is changed.
     pub fn create(
         alloc: Global,
         mut disk: D,
@@ -43,7 +41,7 @@ impl<D: Disk, Y: Yard> Engine<D, Y> {
             MakesShown D.may_leave D.moment D.left_since (settings_of settings) disk (disk_after result) }
         ensures used { IfSome (D.seen disk) (λ image. IsUsed image →
             OnlyRead D.seen D.may_leave D.moment D.left_since disk (disk_after result)) }
-        ensures kept { IfErr result (λ refused. IsUnfit refused.why →
+        ensures kept { IfErr result (λ refused. refused.why ≢ Fault →
             OnlyRead D.seen D.may_leave D.moment D.left_since disk refused.disk) }
         ensures yard { yard_after result ≡ yard }
         ensures later { D.faults disk ≤ D.faults (disk_after result) }

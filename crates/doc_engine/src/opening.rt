@@ -4,9 +4,9 @@ ghost use Rattle.disk_model.specs.Causes.{Rose};
 ghost use Rattle.doc_engine.specs.Created.{CreatedBy};
 ghost use Rattle.doc_engine.specs.Finding.{Finds};
 ghost use Rattle.doc_engine.specs.Opening.{NotOpened, longest_of};
-ghost use Rattle.doc_engine.specs.declared.refusal.OpenWhy.TheVariants.{AlreadyThere, Fault};
+ghost use Rattle.doc_engine.specs.declared.refusal.OpenWhy.TheVariants.{AlreadyThere, Fault, Memory};
 ghost use Rattle.frame_log.specs.Calls.{Blames};
-ghost use Rattle.frame_log.specs.Standing.{end_of};
+ghost use Rattle.frame_log.specs.Standing.{OnlyRead, end_of};
 ghost use Rattle.journal.specs.Opening.{KeepsShown};
 ghost use Rattle.journal.specs.Standing.{AreUp, AreWithin, current_log};
 
@@ -26,8 +26,8 @@ impl<D: Disk, Y: Yard> Engine<D, Y> {
     /// its timestamps: where the last one is given out each commit is refused, and where the merge timestamp is past
     /// the front nothing is said of what is held. The journal that goes on ends within the journals that were found.
     ///
-    /// It takes time n log n in the bytes of the logs, and memory for the entries and the live documents. All memory is taken
-    /// before anything is changed, but for that of the live documents.
+    /// It takes time n log n in the bytes of the logs, and memory for the entries and the live documents; that of the
+    /// live documents is taken last, when the logs are ready.
     pub fn open(alloc: Global, mut disk: D, yard: Y) -> Result<Engine<D, Y>, OpenRefused<D, Y>>
         ensures opened { IfOk result (λ engine. IfSome (D.seen disk) (λ image.
             Opens D.seen D.may_leave image (held_of engine) (journal_of engine) (disk_of engine))) }
@@ -38,6 +38,8 @@ impl<D: Disk, Y: Yard> Engine<D, Y> {
         ensures kind { IfErr result (λ refused. refused.why ≢ AlreadyThere) }
         ensures images { IsSome (D.seen disk) →
             KeepsShown D.may_leave D.moment D.left_since disk (disk_after result) }
+        ensures kept { IsSome (D.seen disk) → IfErr result (λ refused. refused.why ≢ Fault → refused.why ≢ Memory →
+            OnlyRead D.seen D.may_leave D.moment D.left_since disk refused.disk) }
         ensures yard { yard_after result ≡ yard }
         ensures later { D.faults disk ≤ D.faults (disk_after result) }
         ensures rose { IfErr result (λ refused. refused.why ≡ Fault → Rose (D.faults disk) (D.faults refused.disk)) }
@@ -58,6 +60,8 @@ fn find<D: Disk>(alloc: Global, disk: &mut D) -> Result<Found, OpenWhy>
     ensures up { IfOk result (λ found. AreUp found.journal) }
     ensures stamps { IfOk result (λ found. CreatedBy found.restored.front found.restored.live) }
     ensures images { IsSome (D.seen disk.old) → KeepsShown D.may_leave D.moment D.left_since disk.old disk.new }
+    ensures kept { IsSome (D.seen disk.old) → IfErr result (λ why. why ≢ Fault → why ≢ Memory →
+        OnlyRead D.seen D.may_leave D.moment D.left_since disk.old disk.new) }
     ensures within { IfOk result (λ found. AreWithin found.journal (D.seen disk.new)) }
     ensures cause { Blames Fault (D.faults disk.old) (D.faults disk.new) result }
 {

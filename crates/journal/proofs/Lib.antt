@@ -12,4 +12,5 @@ pub mod ReadImages
 pub mod Shows
 pub mod ScanSteps
 pub mod Blanks
+pub mod FirstRoot
 pub mod Makes

@@ -1,13 +1,14 @@
 -- The logs of an empty database, made.
-use Rattle.std.proofs.Common.{◌≡◌, ◌⊎◌, inl, inr, ⊎_elim, ◌≤◌, ◌+◌, ◌-◌, ◌∙◌, not, ◌&&◌, refl, sym, subst, ℕ, Bool, true, false, List, [], ◌∷◌, Option, Result, Ok, Err, IsErrAnd, arith}
+use Rattle.std.proofs.Common.{◌≡◌, ◌⊎◌, inl, inr, ⊎_elim, ◌≤◌, ◌+◌, ◌-◌, ◌<◌, ◌^◌, ◌∙◌, length, not, ◌&&◌, refl, sym, subst, ℕ, Bool, true, false, List, [], ◌∷◌, Option, Result, Ok, Err, IsErrAnd, arith}
 use Rattle.std.specs.Prelude.{if◌then◌else◌}
+use Rattle.disk_model.specs.Causes.{Rose}
 use Rattle.disk_model.specs.Logs.{Image, Outcomes}
 use Rattle.disk_model.specs.Moments.{Throughout}
 use Rattle.doc_model.specs.declared.settings.Settings.{Settings}
 use Rattle.doc_meaning.specs.History.{Base, empty_base, settings_of}
 use Rattle.frame_log.specs.Calls.{Blames}
 use Rattle.frame_log.specs.Frames.{HasFrames, MayHave}
-use Rattle.frame_log.specs.Standing.{IsEmpty, IsUp, OnlyRead}
+use Rattle.frame_log.specs.Standing.{IsEmpty, IsUp, OnlyRead, end_of}
 use Rattle.frame_log.specs.declared.refusal.LogRefusal.{LogRefusal}
 use Rattle.frame_log.specs.declared.refusal.LogRefusal.TheVariants as log
 use Rattle.frame_log.proofs.OneLemmas.{frames_are_one}
@@ -24,11 +25,11 @@ use Rattle.journal.specs.Calls.{Appends}
 use Rattle.journal.specs.Making.{IsEmptyJournal, IsUsed}
 use Rattle.journal.specs.Opening.{Made, MakesShown, ShowsAs}
 use Rattle.journal.specs.Refusing.{HasNoRoot, IsTaken}
-use Rattle.journal.specs.Standing.{AreUp, StandsWith, has_frames, log_of, other_log, root_log_of}
-use Rattle.journal.specs.Refusals.{of_log}
+use Rattle.journal.specs.Standing.{AreUp, StandsWith, has_frames, log_of, other_log, TakesRoot}
 use Rattle.journal.specs.declared.journal.Journal.{Journal}
 use Rattle.journal.specs.declared.refusal.MakeRefusal.{MakeRefusal}
 use Rattle.journal.specs.declared.refusal.MakeRefusal.TheVariants as make
+use Rattle.journal.proofs.FirstRoot.{first_root_is_short}
 use Rattle.journal.proofs.OneLog.{each_log, only_there}
 use Rattle.journal.proofs.Trims.{no_more}
 
@@ -136,13 +137,13 @@ module _ {D : Type 0} (seen : D → Option Image) (may_leave : D → Outcomes) (
       (has 2 (omega arith))
 
   -- the first root goes to log 2
-  first_file : (journal : Journal) (file : ℕ) → IsEmptyJournal journal → root_log_of journal file → file ≡ 2
+  first_file : (journal : Journal) (file : ℕ) → IsEmptyJournal journal → TakesRoot journal file → file ≡ 2
   first_file journal file empty takes = ⊎_elim (λ (two : (file ≡ 2) × IsEmpty journal.root_0). two.0)
       (λ (three : (file ≡ 3) × (IsEmpty journal.root_0 → ⊥) × IsEmpty journal.root_1). absurd (three.1 empty.root_0)) takes
 
   pub first_appended : {T : Type 0} (faults : D → ℕ) (body : List ℕ) (journal after : Journal) (mid new : D)
       (result : Result T LogRefusal) → IsEmptyJournal journal
-      → ((file : ℕ) × root_log_of journal file
+      → ((file : ℕ) × TakesRoot journal file
       × Appends seen may_leave moment left_since faults file body journal after mid new result)
       → Appends seen may_leave moment left_since faults 2 body journal after mid new result
   first_appended faults body journal after mid new result empty (file, takes, appends) =
@@ -193,18 +194,27 @@ module _ {D : Type 0} (seen : D → Option Image) (may_leave : D → Outcomes) (
             (rw (one, empty.journal_1) refl));
       }
 
+  -- the first root is refused by a fault alone
+  pub first_refused : {T : Type 0} (body : List ℕ) (faults : D → ℕ) (journal after : Journal) (mid new : D)
+      (why : LogRefusal) → SpellsRoot body (first_root settings) → IsEmptyJournal journal
+      → Appends seen may_leave moment left_since {T = T} faults 2 body journal after mid new (Err why) → why ≡ log.Fault
+  first_refused body faults journal after mid new log.Down spelled empty appends =
+      absurd (appends.answer.answer.0 (empty.up 2 (omega arith)))
+  first_refused body faults journal after mid new (log.Long end) spelled empty appends =
+      let none : end_of journal.root_0 ≡ 0 = empty.root_0 in
+      let past : 2 ^ 62 < end_of journal.root_0 + 10 + length body = appends.answer.answer.2 in
+      absurd (omega (arith, none, past, first_root_is_short settings body spelled))
+  first_refused body faults journal after mid new log.Fault spelled empty appends = refl
+
   -- a fault is blamed for what it was
   pub first_cause : {T X : Type 0} (body : List ℕ) (faults : D → ℕ) (journal after : Journal) (old mid new : D)
-      (why : LogRefusal) (answer : Result X MakeRefusal) → IsEmptyJournal journal → faults old ≤ faults mid
+      (why : LogRefusal) (answer : Result X MakeRefusal) → SpellsRoot body (first_root settings)
+      → IsEmptyJournal journal → faults old ≤ faults mid
       → Appends seen may_leave moment left_since {T = T} faults 2 body journal after mid new (Err why)
-      → IsErrAnd answer (λ e. e ≡ of_log why) → Blames make.Fault (faults old) (faults new) answer
-  first_cause body faults journal after old mid new why (Ok v) empty later appends failed = absurd failed
-  first_cause body faults journal after old mid new log.Down (Err e) empty later appends failed =
-      absurd (appends.answer.answer.0 (empty.up 2 (omega arith)))
-  first_cause body faults journal after old mid new (log.Long end) (Err e) empty later appends failed =
+      → IsErrAnd answer (λ e. e ≡ make.Fault) → Blames make.Fault (faults old) (faults new) answer
+  first_cause body faults journal after old mid new why (Ok v) spelled empty later appends failed = absurd failed
+  first_cause body faults journal after old mid new why (Err e) spelled empty later appends failed =
       let more = appends.answer.later in
-      record { later = omega (arith, later, more); rose = λ is. absurd (let e_is : e ≡ make.Memory = failed in cc) }
-  first_cause body faults journal after old mid new log.Fault (Err e) empty later appends failed =
-      let more = appends.answer.later in
-      let rose = appends.answer.answer.2 in
+      let rose : Rose (faults mid) (faults new) = (rw (first_refused body faults journal after mid new why spelled
+      empty appends) at appends.answer.answer).2 in
       record { later = omega (arith, later, more); rose = λ is. omega (arith, later, rose) }

@@ -7,8 +7,6 @@ use Rattle.frame_log.specs.Standing.{IsEmpty}
 use Rattle.journal.specs.Refusing.{IsTaken}
 use Rattle.journal.specs.Standing.{AreUp, current_of}
 use Rattle.journal.specs.declared.journal.Journal.{Journal}
-use Rattle.journal.specs.declared.refusal.MakeRefusal.{MakeRefusal}
-use Rattle.journal.specs.declared.refusal.MakeRefusal.TheVariants.{AlreadyThere, Damaged, Fault, Memory}
 use Rattle.journal_meaning.specs.Damages.{AreBadRootLogs}
 
 -- the name of each range index is shorter than 2^32 bytes, as a root spells it
@@ -18,13 +16,6 @@ HasShortNames settings = IsTrue (list_all (λ i. nat_lt (length i.0) (2 ^ 32)) s
 -- the root logs have a root, or break a rule
 abbrev pub IsUsed : Image → Type 0
 IsUsed image = IsTaken image ⊎ ((file : ℕ) × (place : ℕ) × AreBadRootLogs image file place)
-
--- the logs were refused for what they hold
-abbrev pub IsRefusal : MakeRefusal → Type 0
-IsRefusal AlreadyThere = Unit {0}
-IsRefusal (Damaged file place) = Unit {0}
-IsRefusal Fault = ⊥
-IsRefusal Memory = ⊥
 
 -- no log has frames, and the first entry goes to journal 0
 pub record IsEmptyJournal (journal : Journal) : Type 0 where

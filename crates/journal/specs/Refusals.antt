@@ -1,8 +1,6 @@
 -- Why logs weren't read.
 use Rattle.std.specs.Prelude.{ℕ}
 use Rattle.disk_model.specs.declared.file_name.FileName.TheVariants.{Log}
-use Rattle.frame_log.specs.declared.refusal.LogRefusal.{LogRefusal}
-use Rattle.frame_log.specs.declared.refusal.LogRefusal.TheVariants as log
 use Rattle.frame_log.specs.declared.refusal.ScanRefusal.{ScanRefusal}
 use Rattle.frame_log.specs.declared.refusal.ScanRefusal.TheVariants as scan
 use Rattle.journal.specs.declared.refusal.JournalRefusal.{JournalRefusal}
@@ -34,9 +32,3 @@ abbrev pub make_refusal : NotRead → MakeRefusal
 make_refusal (read.Damaged file place) = make.Damaged file place
 make_refusal read.Fault = make.Fault
 make_refusal read.Memory = make.Memory
-
--- why the first root wasn't appended
-abbrev pub of_log : LogRefusal → MakeRefusal
-of_log log.Down = make.Fault
-of_log (log.Long end) = make.Memory
-of_log log.Fault = make.Fault

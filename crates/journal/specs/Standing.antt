@@ -25,8 +25,8 @@ abbrev pub other_log : Journal → Log
 other_log journal = log_of journal (1 - current_of journal)
 
 -- which of the root logs 2 and 3 takes the next root: the empty one, the first if both are
-abbrev pub root_log_of : Journal → ℕ → Type 0
-root_log_of journal file = ((file ≡ 2) × IsEmpty journal.root_0) ⊎ ((file ≡ 3) × (IsEmpty journal.root_0 → ⊥) × IsEmpty
+abbrev pub TakesRoot : Journal → ℕ → Type 0
+TakesRoot journal file = ((file ≡ 2) × IsEmpty journal.root_0) ⊎ ((file ≡ 3) × (IsEmpty journal.root_0 → ⊥) × IsEmpty
     journal.root_1)
 
 -- one of the root logs is empty

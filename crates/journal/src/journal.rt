@@ -25,7 +25,7 @@ impl Journal {
     ghost use Rattle.disk_model.specs.declared.disk.TheConstants.{LOG_COUNT};
     ghost use Rattle.frame_log.specs.Standing.{IsTouched, end_of};
     ghost use Rattle.journal.specs.Calls.{Appends};
-    ghost use Rattle.journal.specs.Standing.{AreUp, AreWithin, HasEmptyRootLog, root_log_of};
+    ghost use Rattle.journal.specs.Standing.{AreUp, AreWithin, HasEmptyRootLog, TakesRoot};
     ghost use Rattle.journal.specs.Standing.{current_log, current_of, other_log, owed_of};
 
     /// Adds an entry's frame to the current journal. Once it answers Ok, each crash leaves it.
@@ -47,7 +47,7 @@ impl Journal {
     pub fn append_root<D: Disk>(&mut self, disk: &mut D, frame: &Frame) -> Result<(), LogRefusal>
         requires within { AreWithin self.old (D.seen disk.old) }
         requires empty { HasEmptyRootLog self.old }
-        ensures root { (file : ℕ) × root_log_of self.old file × Appends D.seen D.may_leave D.moment D.left_since
+        ensures root { (file : ℕ) × TakesRoot self.old file × Appends D.seen D.may_leave D.moment D.left_since
             D.faults file frame.now self.old self.new disk.old disk.new result }
         ensures within { AreWithin self.new (D.seen disk.new) }
     {

@@ -1,10 +1,10 @@
 // Making the logs of an empty database.
-ghost use Rattle.std.specs.Prelude.{◌≡◌, ◌⊎◌, ◌↔◌, [], IsTrue, IsSome, IfSome, IfOk, IfErr};
+ghost use Rattle.std.specs.Prelude.{◌≡◌, ◌≢◌, ◌⊎◌, ◌↔◌, [], IsTrue, IsSome, IfSome, IfOk, IfErr};
 ghost use Rattle.disk_model.specs.Causes.{HasCause};
 ghost use Rattle.doc_meaning.specs.History.{settings_of};
 ghost use Rattle.frame_log.specs.Calls.{Blames};
 ghost use Rattle.frame_log.specs.Standing.{IsEmpty, IsUp, IsWithin, OnlyRead, Since, file_of};
-ghost use Rattle.journal.specs.Making.{HasShortNames, IsEmptyJournal, IsRefusal, IsUsed};
+ghost use Rattle.journal.specs.Making.{HasShortNames, IsEmptyJournal, IsUsed};
 ghost use Rattle.journal.specs.Opening.{Made, MakesShown};
 ghost use Rattle.journal.specs.Refusing.{HasNoRoot, NotMade};
 ghost use Rattle.journal.specs.Standing.{AreUp, AreWithin, StandsWith};
@@ -26,9 +26,8 @@ use std::alloc::{AllocError, Global};
 
 /// Makes the logs of an empty database of these settings, where no root log has a root.
 ///
-/// The root logs are read first; where one is damaged or has a root nothing is changed. Then both are synced, both
-/// journals are made empty whatever they hold, and the first root is appended to log 2. All memory is taken before
-/// anything is changed.
+/// The root logs are read first. Then both are synced, both journals are made empty whatever they hold, and the first
+/// root is appended to log 2.
 pub fn make<D: Disk>(
     alloc: Global,
     disk: &mut D,
@@ -42,7 +41,7 @@ pub fn make<D: Disk>(
         MakesShown D.may_leave D.moment D.left_since (settings_of settings.now) disk.old disk.new }
     ensures used { IfSome (D.seen disk.old) (λ image. IsUsed image →
         OnlyRead D.seen D.may_leave D.moment D.left_since disk.old disk.new) }
-    ensures kept { IfErr result (λ why. IsRefusal why →
+    ensures kept { IfErr result (λ why. why ≢ Fault →
         OnlyRead D.seen D.may_leave D.moment D.left_since disk.old disk.new) }
     ensures up { IfOk result (λ journal. AreUp journal) }
     ensures within { IfOk result (λ journal. AreWithin journal (D.seen disk.new)) }

@@ -1,5 +1,5 @@
 // Opening the logs of a directory.
-ghost use Rattle.std.specs.Prelude.{◌≡◌, ◌≤◌, ◌+◌, IsSome, IfSome, IfOk, IfErr};
+ghost use Rattle.std.specs.Prelude.{◌≡◌, ◌≢◌, ◌≤◌, ◌+◌, IsSome, IfSome, IfOk, IfErr};
 ghost use Rattle.frame_log.specs.Calls.{Blames};
 ghost use Rattle.frame_log.specs.Standing.{OnlyRead};
 ghost use Rattle.journal.specs.Assembling.{Assembles, ReadsAll};
@@ -34,13 +34,14 @@ pub struct Scanned {
 /// Reads the logs of a directory and makes them ready for what follows.
 ///
 /// The four logs are synced. The root logs are read before the journals. Then each log is cut behind its last gate and
-/// synced; where no entry is past the checkpoint and neither journal is empty, the first one is reset. All memory is
-/// taken before anything is changed.
+/// synced; where no entry is past the checkpoint and neither journal is empty, the first one is reset.
 pub fn scan_all<D: Disk>(alloc: Global, disk: &mut D) -> Result<(Journal, Scanned), JournalRefusal>
     ensures found { IfOk result (λ f. IfSome (D.seen disk.old) (λ image.
         Opened D.seen D.may_leave image disk.new f.0 f.1)) }
     ensures refused { IfErr result (λ why. IfSome (D.seen disk.old) (λ image. NotScanned image why)) }
     ensures images { IsSome (D.seen disk.old) → KeepsShown D.may_leave D.moment D.left_since disk.old disk.new }
+    ensures kept { IsSome (D.seen disk.old) → IfErr result (λ why. why ≢ Fault →
+        OnlyRead D.seen D.may_leave D.moment D.left_since disk.old disk.new) }
     ensures up { IfOk result (λ f. AreUp f.0) }
     ensures rises { IfOk result (λ f. RiseFrom (f.1.root.checkpoint + 1) f.1.entries.items) }
     ensures within { IfOk result (λ f. AreWithin f.0 (D.seen disk.new)) }

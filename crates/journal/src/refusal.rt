@@ -147,15 +147,12 @@ impl From<AllocError> for MakeRefusal {
 }
 
 impl From<LogRefusal> for MakeRefusal {
-    ghost use Rattle.journal.specs.Refusals.{of_log};
+    ghost use Rattle.journal.specs.declared.refusal.MakeRefusal.TheVariants.{Fault};
 
-    ghost from_gives = { λ why refusal. refusal ≡ of_log why };
+    ghost from_gives = { λ _ refusal. refusal ≡ Fault };
 
-    // No frame that fits in memory is too long for an empty log.
-    fn from(why: LogRefusal) -> MakeRefusal {
-        match why {
-            LogRefusal::Long { .. } => MakeRefusal::Memory,
-            LogRefusal::Down | LogRefusal::Fault => MakeRefusal::Fault,
-        }
+    // An empty log that isn't down refuses a first root by a fault alone.
+    fn from(_: LogRefusal) -> MakeRefusal {
+        MakeRefusal::Fault
     }
 }

@@ -24,11 +24,11 @@ use Rattle.journal_bodies.proofs.OpLists.{is_commit}
 use Rattle.journal_bodies.proofs.Truths.{from_true}
 use Rattle.journal_meaning.specs.Laws.{FramesAreShort}
 
-length-count : (n : ℕ) → length (count n) ≡ 4
+pub length-count : (n : ℕ) → length (count n) ≡ 4
 unfolding count
 length-count n = length-bytes_high_first 4 n
 
-length-long : (n : ℕ) → length (long n) ≡ 8
+pub length-long : (n : ℕ) → length (long n) ≡ 8
 unfolding long
 length-long n = length-bytes_high_first 8 n
 
@@ -36,10 +36,10 @@ length-number : (units : ℤ) → length (number units) ≡ 16
 unfolding number
 length-number units = length-bytes_high_first 16 (cast_unsigned w128 units)
 
-length-text : (t : List ℕ) → length (text t) ≡ 4 + length t
+pub length-text : (t : List ℕ) → length (text t) ≡ 4 + length t
 length-text t = omega (arith, length-append (count (length t)) t, length-count (length t))
 
-length-listed : {X : Type 0} (spelling : X → List ℕ) (list : List X) →
+pub length-listed : {X : Type 0} (spelling : X → List ℕ) (list : List X) →
     length (listed spelling list) ≡ 4 + length (flat_map spelling list)
 length-listed spelling list =
     omega (arith, length-append (count (length list)) (flat_map spelling list), length-count (length list))

@@ -143,7 +143,7 @@ returns-in_err-append_root-clause-cause g c =
     first_cause g.D.Disk.seen g.D.Disk.may_leave g.D.Disk.moment g.D.Disk.left_since c.args.settings.now
     c.in_ok-frame.frame g.D.Disk.faults c.in_ok-journal.journal c.append_root.new.self c.args.disk.now
     c.empty_journal.new.disk c.append_root.new.disk c.in_err-append_root.field-0.0
-    c.from_residual-in_err-append_root.result
+    c.from_residual-in_err-append_root.result c.in_ok-frame.ensures
     c.in_ok-journal.ensures.journal (omega (arith, later, more)) appends c.from_residual-in_err-append_root.ensures.1
 
 pub returns-clause-images : goal.returns-clause-images
