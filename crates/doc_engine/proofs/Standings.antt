@@ -1,16 +1,21 @@
 -- What logs show that stand for a history.
-use Rattle.std.proofs.Common.{◌≡◌, ◌≤◌, ◌+◌, ℕ, List, [], ◌∷◌, ⊎_elim, inl, inr, sym, subst, subst₂, ap, Option, None}
+use Rattle.std.proofs.Common.{◌≡◌, ◌≢◌, ◌≤◌, ◌+◌, ℕ, List, [], ◌∷◌, ⊎_elim, inl, inr, refl, sym, subst, subst₂, ap, Option, None}
 use Rattle.std.proofs.Common.{Some, arith}
+use Rattle.std.proofs.lemmas.Bool.{cases_eq}
 use Rattle.disk_model.specs.Logs.{Image, Outcomes}
 use Rattle.doc_model.specs.declared.entry.Entry.{Entry}
-use Rattle.doc_engine.specs.Laws.{StandingIsShown}
+use Rattle.doc_engine.specs.Laws.{StandingIsShown, UntouchedIsShown}
 use Rattle.doc_engine.specs.Standing.{Leaves, MayFollow, ShowsWith}
 use Rattle.doc_meaning.specs.History.{AreEntries, Base, History, front, merge, shown}
 use Rattle.frame_log.proofs.Steps.{leaves_may}
-use Rattle.frame_log.specs.Frames.{MayHave}
-use Rattle.journal.specs.Standing.{StandsWith, current_of, log_of}
+use Rattle.frame_log.specs.Frames.{HasFrames, MayHave}
+use Rattle.frame_log.specs.Standing.{Leaves as LogLeaves}
+use Rattle.frame_log.specs.declared.log.Log.{Log}
+use Rattle.frame_log.specs.declared.state.State.{State}
+use Rattle.frame_log.specs.declared.state.State.TheVariants.{Down, Good, Touched}
+use Rattle.journal.specs.Standing.{StandsWith, current_log, current_of, log_of}
 use Rattle.journal.specs.declared.journal.Journal.{Journal}
-use Rattle.journal.proofs.OneLog.{file_is}
+use Rattle.journal.proofs.OneLog.{file_is, only_there}
 use Rattle.journal_bodies.specs.Entries.{SpellsEntry}
 use Rattle.journal_meaning.specs.Bodies.{Bodies, MayHaveBodies}
 use Rattle.journal_meaning.specs.Laws.{no_bodies}
@@ -68,3 +73,29 @@ module _ {D : Type 0} (seen : D → Option Image) (may_leave : D → Outcomes) w
       shows_with stands.kept (current_of journal) stands.told h stands.same stands.ordered stands.tells image pending
       stands.more stands.leaves stands.follows
       (may_have journal disk stands.kept stands.more image stands.stands left)
+
+  -- a log whose gate wasn't touched has the frames that are kept
+  untouched_kept : (state : State) (kept more : List (List ℕ)) (bytes : List ℕ) → (state ≡ Touched → ⊥)
+      → LogLeaves state kept more bytes → HasFrames kept bytes
+  untouched_kept Good kept more bytes apart has = has
+  untouched_kept Down kept more bytes apart has = has
+  untouched_kept Touched kept more bytes apart has = absurd (apart refl)
+
+  -- an entry is pending in the current journal alone
+  more_there : (file number : ℕ) (pending : Option Entry) (more : Bodies) → Leaves file number pending more
+      → (other : ℕ) → other ≢ file → more other ≡ []
+  more_there file number None more none other apart = rw none refl
+  more_there file number (Some entry) more (body, spelled, is) other apart = rw is (only_there file body other apart)
+
+  pub untouched_is_shown : UntouchedIsShown seen may_leave
+  untouched_is_shown journal disk h pending image stands untouched left =
+      shows_told stands.kept (current_of journal) stands.told h stands.same stands.ordered stands.tells image
+      (λ file lt. subst (λ k. MayHave (stands.kept file) [] (image k)) (file_is journal file lt) (⊎_elim
+      (λ is. let here : log_of journal file ≡ current_log journal = ap (log_of journal) is in
+      inl (untouched_kept _ (stands.kept file) (stands.more file) _
+      (λ touched. untouched (subst (λ (log : Log). log.state ≡ Touched) here touched))
+      ((stands.stands.each file lt).images image left)))
+      (λ apart. subst (λ m. MayHave (stands.kept file) m (image (log_of journal file).file))
+      (more_there (current_of journal) (front h + 1) pending stands.more stands.leaves file apart)
+      (leaves_may _ (stands.kept file) (stands.more file) _ ((stands.stands.each file lt).images image left)))
+      (cases_eq file (current_of journal))))
