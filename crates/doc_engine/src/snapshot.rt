@@ -21,14 +21,14 @@ pub struct Snapshot<'a> {
 
 impl Snapshot<'_> {
     /// The timestamp of the last entry.
-    pub fn front(&self) -> u64
+    pub fn stamp(&self) -> u64
         ensures { result ≡ (view_of self.now).front }
     {
         self.front
     }
 
     /// The timestamp below which nothing is read.
-    pub fn merge(&self) -> u64
+    pub fn merge_stamp(&self) -> u64
         ensures { result ≡ (view_of self.now).merge }
     {
         self.merge

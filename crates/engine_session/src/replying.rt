@@ -32,7 +32,7 @@ fn search<D: Disk, Y: Yard>(alloc: Global, engine: &Engine<D, Y>, query: &Query)
     ensures { Finds (seen_of (held_of engine.now)) query.now result }
 {
     let seen = engine.look();
-    let front = seen.front();
+    let front = seen.stamp();
     match seen.answer(alloc, query) {
         Ok(uris) => Reply::Found {
             at: front,

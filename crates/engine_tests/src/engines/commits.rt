@@ -103,7 +103,7 @@ fn what_was_committed_is_found_when_it_is_opened_again(rt: HostRuntime) -> Resul
     let alloc = rt.alloc();
     let again = after_two_commits(alloc)?;
     let seen = again.look();
-    assert_eq!(rt; (seen.front(), seen.merge()), (2, 0));
+    assert_eq!(rt; (seen.stamp(), seen.merge_stamp()), (2, 0));
     let found = owls(alloc, &again)?;
     let uri = found.as_slice().get(0).ok_or("one is found")?;
     assert_eq!(rt; (found.as_slice().len(), uri.as_str()), (1, "/b"));

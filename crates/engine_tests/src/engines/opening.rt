@@ -80,6 +80,6 @@ fn a_directory_is_opened_whose_merge_timestamp_is_past_its_front(
 ) -> Result<(), Fail> {
     let engine = rooted(rt.alloc(), 3, 5)?;
     let seen = engine.look();
-    assert_eq!(rt; (seen.front(), seen.merge()), (3, 5));
+    assert_eq!(rt; (seen.stamp(), seen.merge_stamp()), (3, 5));
     Ok(())
 }
