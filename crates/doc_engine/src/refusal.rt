@@ -5,21 +5,28 @@ use disk_model::FileName;
 use doc_model::Text;
 use journal::{JournalRefusal, MakeRefusal};
 use std::alloc::AllocError;
+use thiserror::Error;
 
 /// Why a commit was refused, in the order of the checks. Want of memory may stand in place of each but the first; after
 /// every refusal but a fault all is as before.
-#[derive(Debug, Drop)]
+#[derive(Debug, Drop, Error)]
 pub enum CommitRefusal {
     /// A log fault stands; the disk's count of faults that was kept then.
+    #[error("a log is down since fault {faults} of the disk")]
     Down { faults: u64 },
     /// The first URI that an earlier operation named.
+    #[error("{} is named twice", .uri.as_str())]
     Twice { uri: Text },
     /// The first operation that expects another version than the live one, which was created at `found`, 0 for none.
+    #[error("{} was created at {found}, not as expected, with the front at {front}", .uri.as_str())]
     Conflict { uri: Text, found: u64, front: u64 },
     /// No timestamp is left, or the journal would pass its longest with this entry and end at `end`.
+    #[error("nothing is left behind timestamp {front}, or the journal would end at {end}")]
     Spent { front: u64, end: u64 },
     /// The disk failed. The engine is at the same history, and down.
+    #[error("the disk failed")]
     Fault,
+    #[error("out of memory")]
     Memory,
 }
 
