@@ -48,6 +48,7 @@ module _ {D Y F B I O P : Type 0} (of_disk : Disk.Ghosts D) {of_yard : Yard.Ghos
         end_of (current_log (journal_of opened)) ≤ longest_of image)
     pub shown : IsSome (of_disk.seen before.disk)
         → KeepsShown of_disk.may_leave of_disk.moment of_disk.left_since before.disk (disk_of opened)
+    pub up : (held_of opened).down ≡ None
     pub yard : yard_of opened ≡ before.yard
     pub later : of_disk.faults before.disk ≤ of_disk.faults (disk_of opened)
 
@@ -62,7 +63,7 @@ module _ {D Y F B I O P : Type 0} (of_disk : Disk.Ghosts D) {of_yard : Yard.Ghos
     pub at_end : IsTrue over → IsAtEnd (source.left back.source)
     pub ended : HasEnded input output over how
     pub attended : (base : Base) (longest : ℕ) → IsBase base → IsAt (held_of opened) (begins base)
-        → end_of (current_log (journal_of opened)) ≤ longest
+        → (held_of opened).down ≡ None → end_of (current_log (journal_of opened)) ≤ longest
         → Attended opened closed base longest input output over how
     pub yard : yard_of closed ≡ yard_of opened
     pub later : of_disk.faults (disk_of opened) ≤ of_disk.faults (disk_of closed)
@@ -95,7 +96,8 @@ module _ {D Y F B I O P : Type 0} (of_disk : Disk.Ghosts D) {of_yard : Yard.Ghos
           let begun = opens.begun base shows in
           has_turns before.disk opened closed shown base (longest_of image) has_served.input has_served.output
           has_served.over how has_opened.later begun.stands
-          (has_served.attended base (longest_of image) (what_is_shown_is_a_base image base shows) begun.is_at longest));
+          (has_served.attended base (longest_of image) (what_is_shown_is_a_base image base shows) begun.is_at
+          has_opened.up longest));
       ends = refl;
     }
 

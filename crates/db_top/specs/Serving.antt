@@ -35,11 +35,12 @@ module _ {D : Type 0} (disk : Disk.Ghosts D) where
     -- each image since the disk was handed out shows what one showed then, or the history of the first turns
     pub always : (c : Image) → disk.left_since after (disk.moment before) c
         → ((d : Image) × disk.may_leave before d × ShowsAs d c) ⊎ ShowsFrom base turns 0 c
-    -- while it was opened each image showed what one showed before; from then on it went through the histories of the
-    -- turns, one by one, and never back
+    -- while it was opened each image showed what one showed before. From then on it stood at a state behind each turn,
+    -- one after the other, and a crash since such a state leaves the turns up to it. When the client's bytes were
+    -- written isn't said here, since the streams and the disk have no clock in common
     pub opened : D
     pub opening : KeepsShown disk.may_leave disk.moment disk.left_since before opened
-    pub goes_on : Acknowledges disk.may_leave disk.moment disk.left_since base turns opened after
+    pub goes_on : Acknowledges disk.seen disk.may_leave disk.moment disk.left_since base turns opened after
 
   -- there are turns of the session's author alone, legal from a base, with which it agrees; the disk keeps them, and
   -- counted the faults of logs that they met

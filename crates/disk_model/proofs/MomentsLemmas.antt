@@ -11,6 +11,7 @@ throughout_first before now past since old new P only goes was is = record {
   later = goes.later;
   each = λ c left. ⊎_elim (λ then. was c (only c then)) (λ may. is c may) (goes.nothing_else before c (omega arith) left);
   earlier = λ t c le left. ⊎_elim (λ then. inl then) (λ may. inr (is c may)) (goes.nothing_else t c le left);
+  keeps = goes.keeps;
 }
 
 -- one call more
@@ -22,4 +23,5 @@ throughout_more before middle now past between since new P so_far goes is = reco
   each = λ c left. ⊎_elim (λ then. so_far.each c then) (λ may. is c may) (goes.nothing_else before c so_far.later left);
   earlier = λ t c le left. ⊎_elim (λ then. so_far.earlier t c le then) (λ may. inr (is c may))
       (goes.nothing_else t c (omega (arith, le, so_far.later)) left);
+  keeps = λ t c le was. goes.keeps t c (omega (arith, le, so_far.later)) (so_far.keeps t c le was);
 }

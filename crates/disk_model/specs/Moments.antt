@@ -14,3 +14,5 @@ pub record Throughout (before now : ℕ) (past since : ℕ → Outcomes) (P : Im
   pub each : (c : Image) → since before c → P c
   -- for a stretch that began earlier
   pub earlier : (t : ℕ) (c : Image) → t ≤ before → since t c → past t c ⊎ P c
+  -- what a crash might have left stays
+  pub keeps : (t : ℕ) (c : Image) → t ≤ before → past t c → since t c

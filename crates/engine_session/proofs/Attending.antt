@@ -1,7 +1,6 @@
 -- A session with an engine agrees with the turns that its lines used.
 use Rattle.std.proofs.Common.{◌≡◌, ◌≤◌, ℕ, Bool, List, [], sym, subst, None, arith}
 use Rattle.client_run.specs.Sessions as s
-use Rattle.disk_model.specs.Logs.{Image}
 use Rattle.disk_model.specs.declared.disk.Disk
 use Rattle.disk_model.specs.declared.yard.Build
 use Rattle.disk_model.specs.declared.yard.SealedFile
@@ -10,6 +9,7 @@ use Rattle.doc_engine.specs.Held.{IsAt, held_of, journal_of}
 use Rattle.doc_engine.specs.Opening.{begins}
 use Rattle.doc_engine.specs.declared.engine.Engine.{Engine}
 use Rattle.doc_meaning.specs.History.{Base, IsBase}
+use Rattle.engine_session.proofs.Crashing.{LeavesNow}
 use Rattle.engine_session.proofs.Using.{serves_lines, state}
 use Rattle.engine_session.proofs.Taking.{goes_first}
 use Rattle.engine_session.specs.Attended.{Attended}
@@ -24,7 +24,7 @@ use Rattle.transcript.specs.declared.session_end.SessionEnd.{SessionEnd}
 
 module _ {D Y F B : Type 0} {of_disk : Disk.Ghosts D} {of_yard : Yard.Ghosts Y F B} {of_file : SealedFile.Ghosts F}
     {of_build : Build.Ghosts B F}
-    (only : (disk : D) (c : Image) → of_disk.left_since disk (of_disk.moment disk) c → of_disk.may_leave disk c)
+    (at_now : LeavesNow of_disk.may_leave of_disk.moment of_disk.left_since)
     {S : Type 0} (answers : s.Relation S) (engine_of : S → Engine D Y F B of_disk of_yard of_file of_build)
     (steps : (old : S) (asked : Command) (said : Reply) (new : S) → answers old asked said new
     → Step (engine_of old) asked said (engine_of new)) where
@@ -34,8 +34,8 @@ module _ {D Y F B : Type 0} {of_disk : Disk.Ghosts D} {of_yard : Yard.Ghosts Y F
       → s.Serves answers first final input output how over
       → Attended (engine_of first) (engine_of final) base longest input output over how
   attended first final base longest input output how over is_base at up ends is =
-      let goes = goes_first only (engine_of first) base longest at up ends is_base.ordered in
-      let all = serves_lines only (engine_of first) base longest answers engine_of steps first final [] 0 is.exchanges
+      let goes = goes_first at_now (engine_of first) base longest at up ends is_base.ordered in
+      let all = serves_lines at_now (engine_of first) base longest answers engine_of steps first final [] 0 is.exchanges
       goes is.replies in
       record {
         turns = all.more;

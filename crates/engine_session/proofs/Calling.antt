@@ -3,7 +3,6 @@ use Rattle.std.proofs.Common.{◌≡◌, ◌≤◌, ℕ, Bool, List, subst₂, N
 use denote.Param.Members.{Mut}
 use Rattle.std.specs.Fn.{CalledWithState}
 use Rattle.client_run.specs.Sessions.{Serves}
-use Rattle.disk_model.specs.Logs.{Image}
 use Rattle.disk_model.specs.declared.disk.Disk
 use Rattle.disk_model.specs.declared.yard.Build
 use Rattle.disk_model.specs.declared.yard.SealedFile
@@ -13,6 +12,7 @@ use Rattle.doc_engine.specs.Opening.{begins}
 use Rattle.doc_engine.specs.declared.engine.Engine.{Engine}
 use Rattle.doc_meaning.specs.History.{Base, IsBase}
 use Rattle.engine_session.proofs.Attending.{attended}
+use Rattle.engine_session.proofs.Crashing.{LeavesNow}
 use Rattle.engine_session.proofs.Staying.{Stays, lines_stay}
 use Rattle.engine_session.specs.Attended.{Attended}
 use Rattle.engine_session.specs.Step.{Step}
@@ -25,7 +25,7 @@ use Rattle.transcript.specs.declared.session_end.SessionEnd.{SessionEnd}
 
 module _ {D Y F B : Type 0} {of_disk : Disk.Ghosts D} {of_yard : Yard.Ghosts Y F B} {of_file : SealedFile.Ghosts F}
     {of_build : Build.Ghosts B F}
-    (only : (disk : D) (c : Image) → of_disk.left_since disk (of_disk.moment disk) c → of_disk.may_leave disk c)
+    (at_now : LeavesNow of_disk.may_leave of_disk.moment of_disk.left_since)
     {C : Type 0}
     (g : Mut C (MutBor (Engine D Y F B of_disk of_yard of_file of_build) × (Command × Unit {0}))
     (Reply × (MutBor (Engine D Y F B of_disk of_yard of_file of_build) × Unit {0})))
@@ -47,7 +47,7 @@ module _ {D Y F B : Type 0} {of_disk : Disk.Ghosts D} {of_yard : Yard.Ghosts Y F
       → (held_of first.state).down ≡ None → end_of (current_log (journal_of first.state)) ≤ longest
       → Attended first.state final.state base longest input output over how
   attended_by base longest is_base at up ends =
-      attended only (λ old asked said new. CalledWithState g old.answer old.state asked said new.answer new.state)
+      attended at_now (λ old asked said new. CalledWithState g old.answer old.state asked said new.answer new.state)
       (λ (s : Answering (Engine D Y F B of_disk of_yard of_file of_build) C). s.state) steps first final base
       longest input output how over is_base at up ends serves
 

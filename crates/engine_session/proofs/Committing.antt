@@ -5,7 +5,6 @@ use Rattle.std.proofs.Common.{length-append, Result, Ok, Err, arith}
 use Rattle.std.proofs.lemmas.Bool.{leb-true}
 use Rattle.std.specs.List.{All, find}
 use Rattle.disk_model.specs.Causes.{Rose}
-use Rattle.disk_model.specs.Logs.{Image}
 use Rattle.disk_model.specs.declared.disk.Disk
 use Rattle.disk_model.specs.declared.yard.Build
 use Rattle.disk_model.specs.declared.yard.SealedFile
@@ -23,7 +22,7 @@ use Rattle.doc_model.specs.Operations.{AreOps, uri_of}
 use Rattle.doc_model.specs.declared.entry.Entry.{Entry}
 use Rattle.doc_model.specs.declared.entry.Entry.TheVariants as entry
 use Rattle.doc_model.specs.declared.op.Op.{Op}
-use Rattle.engine_session.proofs.Crashing.{shows_all, shows_more}
+use Rattle.engine_session.proofs.Crashing.{LeavesNow, shows_all, shows_more}
 use Rattle.engine_session.proofs.Saying.{answer_of, conflict_free, rose_earlier, twice_free}
 use Rattle.engine_session.proofs.Taking.{Goes, goes_more, goes_same}
 use Rattle.engine_session.proofs.Turning.{behind_none, one_more, pending_last, pending_stays, same_more, turn_of}
@@ -37,10 +36,10 @@ use Rattle.transcript.specs.Turns.{Answer, Turn, commit, commits, down, down_of,
 
 module _ {D Y F B : Type 0} {of_disk : Disk.Ghosts D} {of_yard : Yard.Ghosts Y F B} {of_file : SealedFile.Ghosts F}
     {of_build : Build.Ghosts B F}
-    (only : (disk : D) (c : Image) → of_disk.left_since disk (of_disk.moment disk) c → of_disk.may_leave disk c)
+    (at_now : LeavesNow of_disk.may_leave of_disk.moment of_disk.left_since)
     (first : Engine D Y F B of_disk of_yard of_file of_build) (base : Base) (longest : ℕ)
     (old new : Engine D Y F B of_disk of_yard of_file of_build) (ops : List Op) (asked : AreOps ops) (list : List Turn)
-    (goes : Goes only first base longest old list) where
+    (goes : Goes at_now first base longest old list) where
   h : History
   h = history_of base list
 
@@ -73,16 +72,16 @@ module _ {D Y F B : Type 0} {of_disk : Disk.Ghosts D} {of_yard : Yard.Ghosts Y F
   refused : (result : Result ℕ CommitRefusal) → new ≡ old → IsTurn base longest list (commit_turn result)
       → ((n : ℕ) → pending_behind (pending_of list) (commit ops) (answer_of result) (Some n) ≡ pending_of list)
       → entries_of (commit ops) (answer_of result) ≡ []
-      → Goes only first base longest new (list ++ commit_turn result ∷ [])
+      → Goes at_now first base longest new (list ++ commit_turn result ∷ [])
   refused result same follows stays none =
       subst (λ (e : Engine D Y F B of_disk of_yard of_file of_build).
-      Goes only first base longest e (list ++ commit_turn result ∷ [])) (sym same)
-      (goes_same only first base longest old list (commit_turn result) goes refl follows none (still_down same)
+      Goes at_now first base longest e (list ++ commit_turn result ∷ [])) (sym same)
+      (goes_same at_now first base longest old list (commit_turn result) goes refl follows none (still_down same)
       (pending_stays list (commit ops) (answer_of result) (held_of new).down (still_down same) stays))
 
   -- a commit that was entered
   entered : (at : ℕ) → HasCommitted old new ops (Ok at)
-      → Goes only first base longest new (list ++ commit_turn (Ok at) ∷ [])
+      → Goes at_now first base longest new (list ++ commit_turn (Ok at) ∷ [])
   unfolding h end
   entered at has =
       let is = goes.takes.is_at in
@@ -93,7 +92,7 @@ module _ {D Y F B : Type 0} {of_disk : Disk.Ghosts D} {of_yard : Yard.Ghosts Y F
       let pends : pending_of (list ++ commit_turn (Ok at) ∷ []) ≡ None =
       pending_last None list (commit_turn (Ok at))
       ∙ behind_none (pending_of list) (commit ops) (answer_of (Ok at)) (held_of new).down lasts in
-      goes_more only first base longest old new list (commit_turn (Ok at)) goes refl
+      goes_more at_now first base longest old new list (commit_turn (Ok at)) goes refl
       (record {
         asked = asked;
         of_job = tt;
@@ -141,7 +140,7 @@ module _ {D Y F B : Type 0} {of_disk : Disk.Ghosts D} {of_yard : Yard.Ghosts Y F
 
   -- a commit that a fault broke off
   broken : HasCommitted old new ops (Err refusal.Fault)
-      → Goes only first base longest new (list ++ commit_turn (Err refusal.Fault) ∷ [])
+      → Goes at_now first base longest new (list ++ commit_turn (Err refusal.Fault) ∷ [])
   unfolding h end
   broken has =
       let is = goes.takes.is_at in
@@ -154,7 +153,7 @@ module _ {D Y F B : Type 0} {of_disk : Disk.Ghosts D} {of_yard : Yard.Ghosts Y F
       let pends : pending_of (list ++ turn ∷ []) ≡ Some (entry.Commit ops) =
       pending_last None list turn
       ∙ ap (pending_behind (pending_of list) (commit ops) fault) downs in
-      goes_more only first base longest old new list turn goes refl
+      goes_more at_now first base longest old new list turn goes refl
       (record {
         asked = asked;
         of_job = tt;
@@ -206,7 +205,7 @@ module _ {D Y F B : Type 0} {of_disk : Disk.Ghosts D} {of_yard : Yard.Ghosts Y F
 
   -- the turn of a commit
   pub goes_commit : (result : Result ℕ CommitRefusal) → HasCommitted old new ops result
-      → Goes only first base longest new (list ++ commit_turn result ∷ [])
+      → Goes at_now first base longest new (list ++ commit_turn result ∷ [])
   unfolding h end
   goes_commit (Ok at) has = entered at has
   goes_commit (Err refusal.Fault) has = broken has

@@ -1,6 +1,6 @@
 -- What a crash leaves since each turn, with one turn more.
-use Rattle.std.proofs.Common.{◌≡◌, ◌≤◌, ◌<◌, ◌⊎◌, inl, inr, ⊎_elim, ℕ, zero, suc, List, [], ◌∷◌, ◌++◌, length}
-use Rattle.std.proofs.Common.{take, Some, refl, sym, subst, ◌∙◌, length-append, arith}
+use Rattle.std.proofs.Common.{◌≡◌, ◌+◌, ◌≤◌, ◌<◌, ◌⊎◌, inl, inr, ⊎_elim, ℕ, zero, suc, List, [], ◌∷◌, ◌++◌, length}
+use Rattle.std.proofs.Common.{take, Option, Some, IsSome, refl, sym, subst, ◌∙◌, length-append, arith}
 use Rattle.std.proofs.lemmas.Bool.{cases_eq}
 use Rattle.std.proofs.lemmas.List.{take-append-le, take_all}
 use Rattle.std.proofs.lemmas.Option.{slice_get_within}
@@ -54,20 +54,37 @@ only_one : {A : Type 0} (x : A) (k : ℕ) (y : A) → slice_get (x ∷ []) k ≡
 only_one x zero y is = (refl, sym (some_is is))
 only_one x (suc k) y is = absurd (cc)
 
-module _ {D : Type 0} (may_leave : D → Outcomes) (moment : D → ℕ) (left_since : D → ℕ → Outcomes)
-    (only : (disk : D) (c : Image) → left_since disk (moment disk) c → may_leave disk c) (base : Base) where
+-- since its own moment a crash might have left exactly what it may leave
+abbrev pub LeavesNow : {D : Type 0} → (D → Outcomes) → (D → ℕ) → (D → ℕ → Outcomes) → Type 0
+LeavesNow {D} may_leave moment left_since = (disk : D) (c : Image)
+    → (left_since disk (moment disk) c → may_leave disk c) × (may_leave disk c → left_since disk (moment disk) c)
+
+pub leaves_now : {D : Type 0} (may_leave : D → Outcomes) (moment : D → ℕ) (left_since : D → ℕ → Outcomes)
+    → ((disk : D) (c : Image) → left_since disk (moment disk) c → may_leave disk c)
+    → ((disk : D) (t : ℕ) (c : Image) → t ≤ moment disk → may_leave disk c → left_since disk t c)
+    → LeavesNow may_leave moment left_since
+leaves_now may_leave moment left_since only counts disk c = (only disk c, counts disk (moment disk) c (omega arith))
+
+module _ {D : Type 0} (seen : D → Option Image) (may_leave : D → Outcomes) (moment : D → ℕ)
+    (left_since : D → ℕ → Outcomes) (at_now : LeavesNow may_leave moment left_since) (base : Base) where
   -- each image of a state shows the history of these turns, or it with the entry that was broken off
   abbrev pub AreShown : List Turn → D → Type 0
   AreShown list state = (c : Image) → may_leave state c → ShowsWith (history_of base list) (pending_of list) c
 
   -- before the first turn
-  pub acknowledges_none : (disk : D) → AreShown [] disk → Acknowledges may_leave moment left_since base [] disk disk
-  acknowledges_none disk shown = record {
+  pub acknowledges_none : (disk : D) → IsSome (seen disk) → AreShown [] disk
+      → Acknowledges seen may_leave moment left_since base [] disk disk
+  acknowledges_none disk told shown = record {
     states = disk ∷ [];
     each = refl;
     first = refl;
     last = refl;
+    told = λ k state is. subst (λ s. IsSome (seen s)) (sym (only_one disk k state is).1) told;
+    later = λ k state next is then. let (zeroth, same) = only_one disk (k + 1) next then in absurd (omega (arith, zeroth));
     past = λ k state is. subst (λ s. moment s ≤ moment disk) (sym (only_one disk k state is).1) (omega arith);
+    stood = λ k state c is may.
+        let (zeroth, same) = only_one disk k state is in
+        subst (λ s. left_since disk (moment s) c) (sym same) ((at_now disk c).1 (subst (λ s. may_leave s c) same may));
     shows = λ k state c is may.
         let (zeroth, same) = only_one disk k state is in
         subst (λ n. ShowsWith (history_of base (take n [])) (pending_of (take n [])) c) (sym zeroth)
@@ -75,7 +92,7 @@ module _ {D : Type 0} (may_leave : D → Outcomes) (moment : D → ℕ) (left_si
     left = λ k state c is left.
         let (zeroth, same) = only_one disk k state is in
         shows_all base [] k c (omega (arith, zeroth))
-        (shown c (only disk c (subst (λ s. left_since disk (moment s) c) same left)));
+        (shown c ((at_now disk c).0 (subst (λ s. left_since disk (moment s) c) same left)));
   }
 
   -- at each moment up to the end of one turn more
@@ -90,9 +107,9 @@ module _ {D : Type 0} (may_leave : D → Outcomes) (moment : D → ℕ) (left_si
       (λ c shows. shows_fewer base (list ++ turn ∷ []) (length list) 0 c (omega arith) shows))
 
   module _ (list : List Turn) (turn : Turn) (old middle new : D)
-      (before : Acknowledges may_leave moment left_since base list old middle)
+      (before : Acknowledges seen may_leave moment left_since base list old middle)
       (since : Since moment left_since middle new (ShowsFrom base (list ++ turn ∷ []) (length list)))
-      (now : AreShown (list ++ turn ∷ []) new) where
+      (told : IsSome (seen new)) (shown : AreShown (list ++ turn ∷ []) new) where
     states : List D
     states = before.states ++ new ∷ []
 
@@ -125,7 +142,7 @@ module _ {D : Type 0} (may_leave : D → Outcomes) (moment : D → ℕ) (left_si
         (λ late. subst (λ (l : List Turn). ShowsWith (history_of base l) (pending_of l) c)
         (sym (take_all k (list ++ turn ∷ [])
         (omega (arith, late.0, before.each, length-append list (turn ∷ [])))))
-        (now c (subst (λ s. may_leave s c) late.1 may)))
+        (shown c (subst (λ s. may_leave s c) late.1 may)))
         (which k state is)
 
     -- what a crash leaves since a state
@@ -139,10 +156,44 @@ module _ {D : Type 0} (may_leave : D → Outcomes) (moment : D → ℕ) (left_si
         (since.earlier (moment state) c (before.past k state early.1) left))
         (λ late. shows_all base (list ++ turn ∷ []) k c
         (omega (arith, late.0, before.each, length-append list (turn ∷ [])))
-        (now c (only new c (subst (λ s. left_since new (moment s) c) late.1 left))))
+        (shown c ((at_now new c).0 (subst (λ s. left_since new (moment s) c) late.1 left))))
         (which k state is)
 
-    pub acknowledges_more : Acknowledges may_leave moment left_since base (list ++ turn ∷ []) old new
+    -- a state is told
+    told_at : (k : ℕ) (state : D) → slice_get states k ≡ Some state → IsSome (seen state)
+    told_at k state is = ⊎_elim
+        (λ early. before.told k state early.1)
+        (λ late. subst (λ s. IsSome (seen s)) (sym late.1) told)
+        (which k state is)
+
+    -- its moment isn't past that of the last
+    past_at : (k : ℕ) (state : D) → slice_get states k ≡ Some state → moment state ≤ moment new
+    past_at k state is = ⊎_elim
+        (λ early. omega (arith, before.past k state early.1, since.later))
+        (λ late. subst (λ s. moment s ≤ moment new) (sym late.1) (omega arith))
+        (which k state is)
+
+    -- nor past that of the next
+    later_at : (k : ℕ) (state next : D) → slice_get states k ≡ Some state → slice_get states (k + 1) ≡ Some next
+        → moment state ≤ moment next
+    later_at k state next is then = ⊎_elim
+        (λ early. ⊎_elim
+        (λ sooner. before.later k state next sooner.1 early.1)
+        (λ last. absurd (omega (arith, early.0, last.0)))
+        (which k state is))
+        (λ late. subst (λ s. moment state ≤ moment s) (sym late.1) (past_at k state is))
+        (which (k + 1) next then)
+
+    -- what a crash might have left at a state counts among what might have been left since
+    stood_at : (k : ℕ) (state : D) (c : Image) → slice_get states k ≡ Some state → may_leave state c
+        → left_since new (moment state) c
+    stood_at k state c is may = ⊎_elim
+        (λ early. since.keeps (moment state) c (before.past k state early.1) (before.stood k state c early.1 may))
+        (λ late. subst (λ s. left_since new (moment s) c) (sym late.1)
+        ((at_now new c).1 (subst (λ s. may_leave s c) late.1 may)))
+        (which k state is)
+
+    pub acknowledges_more : Acknowledges seen may_leave moment left_since base (list ++ turn ∷ []) old new
     unfolding states
     acknowledges_more = record {
       states = states;
@@ -150,10 +201,10 @@ module _ {D : Type 0} (may_leave : D → Outcomes) (moment : D → ℕ) (left_si
       first = get_before before.states new 0 (omega (arith, before.each)) ∙ before.first;
       last = subst (λ n. slice_get states n ≡ Some new)
           (omega (arith, before.each, length-append list (turn ∷ []))) last_at;
-      past = λ k state is. ⊎_elim
-          (λ early. omega (arith, before.past k state early.1, since.later))
-          (λ late. subst (λ s. moment s ≤ moment new) (sym late.1) (omega arith))
-          (which k state is);
+      told = told_at;
+      later = later_at;
+      past = past_at;
+      stood = stood_at;
       shows = shown_at;
       left = left_at;
     }

@@ -17,7 +17,8 @@ use Rattle.doc_engine.specs.Standing.{ShowsWith, StandsFor}
 use Rattle.doc_engine.specs.declared.engine.Engine.{Engine}
 use Rattle.doc_meaning.specs.History.{Base, History, front, merge}
 use Rattle.doc_model.specs.declared.entry.Entry.{Entry}
-use Rattle.engine_session.proofs.Crashing.{acknowledges_more, acknowledges_none, shows_all, shows_more, since_more}
+use Rattle.engine_session.proofs.Crashing.{LeavesNow, acknowledges_more, acknowledges_none, shows_all, shows_more}
+use Rattle.engine_session.proofs.Crashing.{since_more}
 use Rattle.engine_session.proofs.Places.{at_more, single}
 use Rattle.engine_session.proofs.Turning.{down_last, pending_last, same_more}
 use Rattle.engine_session.specs.Attended.{AreCounted, Takes}
@@ -49,7 +50,7 @@ after_counted before now count (first ∷ list) is counts =
 
 module _ {D Y F B : Type 0} {of_disk : Disk.Ghosts D} {of_yard : Yard.Ghosts Y F B} {of_file : SealedFile.Ghosts F}
     {of_build : Build.Ghosts B F}
-    (only : (disk : D) (c : Image) → of_disk.left_since disk (of_disk.moment disk) c → of_disk.may_leave disk c)
+    (at_now : LeavesNow of_disk.may_leave of_disk.moment of_disk.left_since)
     (first : Engine D Y F B of_disk of_yard of_file of_build) (base : Base) (longest : ℕ) where
   -- turns were taken, and nothing is read below a merge timestamp past the front
   pub record Goes (now : Engine D Y F B of_disk of_yard of_file of_build) (list : List Turn) : Type 0 where
@@ -78,9 +79,9 @@ module _ {D Y F B : Type 0} {of_disk : Disk.Ghosts D} {of_yard : Yard.Ghosts Y F
       yard = refl;
       keeps = λ stands. record {
         stands = stands;
-        crash = acknowledges_none of_disk.may_leave of_disk.moment of_disk.left_since only base (disk_of first)
-            (shown_now first (begins base) None stands);
-        since = throughout_still _ _ _ _ (only (disk_of first)) (λ c left. shows_all base [] 0 c (omega arith)
+        crash = acknowledges_none of_disk.seen of_disk.may_leave of_disk.moment of_disk.left_since at_now base
+            (disk_of first) (stands.stands.each 0 (omega arith)).told (shown_now first (begins base) None stands);
+        since = throughout_still _ _ _ _ (λ c left. (at_now (disk_of first) c).0 left) (λ c left. shows_all base [] 0 c (omega arith)
             (shown_now first (begins base) None stands c left));
       };
     };
@@ -127,11 +128,12 @@ module _ {D Y F B : Type 0} {of_disk : Disk.Ghosts D} {of_yard : Yard.Ghosts Y F
                 let step = keeps kept.stands in
                 record {
                   stands = step.0;
-                  crash = acknowledges_more of_disk.may_leave of_disk.moment of_disk.left_since only base list turn
-                      (disk_of first) (disk_of old) (disk_of new) kept.crash step.1
+                  crash = acknowledges_more of_disk.seen of_disk.may_leave of_disk.moment of_disk.left_since at_now
+                      base list turn (disk_of first) (disk_of old) (disk_of new) kept.crash step.1
+                      (step.0.stands.each 0 (omega arith)).told
                       (shown_now new (history_of base (list ++ turn ∷ [])) (pending_of (list ++ turn ∷ [])) step.0);
-                  since = since_more of_disk.may_leave of_disk.moment of_disk.left_since only base list turn
-                      (disk_of first) (disk_of old) (disk_of new) kept.since step.1;
+                  since = since_more of_disk.seen of_disk.may_leave of_disk.moment of_disk.left_since at_now base
+                      list turn (disk_of first) (disk_of old) (disk_of new) kept.since step.1;
                 };
           };
           ordered = ordered;
@@ -167,7 +169,7 @@ module _ {D Y F B : Type 0} {of_disk : Disk.Ghosts D} {of_yard : Yard.Ghosts Y F
           subst₂ (λ (h : History) (p : Option Entry).
               StandsFor of_disk.seen of_disk.may_leave (journal_of now) (disk_of now) h p) (sym same) (sym pends)
               stands,
-          throughout_still _ _ _ _ (λ c left. only (disk_of now) c left)
+          throughout_still _ _ _ _ (λ c left. (at_now (disk_of now) c).0 left)
               (λ c left. shows_more base list turn (length list) c
               (shows_all base list (length list) c (omega arith)
               (shown_now now (history_of base list) (pending_of list) stands c left))),

@@ -4,7 +4,6 @@ use Rattle.std.proofs.Common.{subst, append-nil, append_assoc, Option, Some, Non
 use Rattle.std.specs.List.{flat_map}
 use Rattle.client_run.specs.Sessions as s
 use Rattle.client_run.specs.Sessions.{Exchange}
-use Rattle.disk_model.specs.Logs.{Image}
 use Rattle.disk_model.specs.declared.disk.Disk
 use Rattle.disk_model.specs.declared.yard.Build
 use Rattle.disk_model.specs.declared.yard.SealedFile
@@ -17,6 +16,7 @@ use Rattle.doc_model.specs.Operations.{AreOps}
 use Rattle.doc_model.specs.declared.op.Op.{Op}
 use Rattle.doc_model.specs.declared.query.Query.{Query}
 use Rattle.engine_session.proofs.Committing.{commit_turn, goes_commit}
+use Rattle.engine_session.proofs.Crashing.{LeavesNow}
 use Rattle.engine_session.proofs.Saying.{answer_of, said_is}
 use Rattle.engine_session.proofs.Taking.{Goes, goes_same}
 use Rattle.engine_session.proofs.Turning.{pending_stays, turn_of}
@@ -42,7 +42,7 @@ state reads = record { pin = None; faults_left = 0; reads = reads }
 
 module _ {D Y F B : Type 0} {of_disk : Disk.Ghosts D} {of_yard : Yard.Ghosts Y F B} {of_file : SealedFile.Ghosts F}
     {of_build : Build.Ghosts B F}
-    (only : (disk : D) (c : Image) → of_disk.left_since disk (of_disk.moment disk) c → of_disk.may_leave disk c)
+    (at_now : LeavesNow of_disk.may_leave of_disk.moment of_disk.left_since)
     (first : Engine D Y F B of_disk of_yard of_file of_build) (base : Base) (longest : ℕ) where
   -- how a line is answered, from what its command is
   abbrev pub Lines : ℕ → List ℕ → Command → Type 0
@@ -55,32 +55,32 @@ module _ {D Y F B : Type 0} {of_disk : Disk.Ghosts D} {of_yard : Yard.Ghosts Y F
       (answer : Option Reply) : Type 0 where
     pub more : List Turn
     pub reads : ℕ
-    pub goes : Goes only first base longest new (list ++ more)
+    pub goes : Goes at_now first base longest new (list ++ more)
     pub answers : t.AnswersLine base (state n) line (turns_behind 0 list more) answer (state reads)
 
   -- without a turn
   none_used : (new old : Engine D Y F B of_disk of_yard of_file of_build) (list : List Turn) (n : ℕ) (line : List ℕ)
-      (answer : Option Reply) → Goes only first base longest old list → new ≡ old
+      (answer : Option Reply) → Goes at_now first base longest old list → new ≡ old
       → t.AnswersLine base (state n) line [] answer (state n) → Served1 new list n line answer
   none_used new old list n line answer goes same answers = record {
     more = [];
     reads = n;
-    goes = subst (λ (e : Engine D Y F B of_disk of_yard of_file of_build). Goes only first base longest e (list ++ []))
-        (sym same) (subst (λ (g : List Turn). Goes only first base longest old g) (sym (append-nil list)) goes);
+    goes = subst (λ (e : Engine D Y F B of_disk of_yard of_file of_build). Goes at_now first base longest e (list ++ []))
+        (sym same) (subst (λ (g : List Turn). Goes at_now first base longest old g) (sym (append-nil list)) goes);
     answers = answers;
   }
 
   module _ (old new : Engine D Y F B of_disk of_yard of_file of_build) (list : List Turn) (n : ℕ) (line : List ℕ)
-      (goes : Goes only first base longest old list) where
+      (goes : Goes at_now first base longest old list) where
     -- a commit
     commit_line : (ops : List Op) (answer : Reply) → AreOps ops → Step old (command.Commit ops) answer new
         → Lines n line (command.Commit ops) → Served1 new list n line (Some answer)
     commit_line ops answer asked (result, says, has) lines =
-        let turn = commit_turn only first base longest old new ops asked list goes result in
+        let turn = commit_turn at_now first base longest old new ops asked list goes result in
         record {
           more = turn ∷ [];
           reads = n;
-          goes = goes_commit only first base longest old new ops asked list goes result has;
+          goes = goes_commit at_now first base longest old new ops asked list goes result has;
           answers = lines (turns_behind 0 list (turn ∷ [])) answer n (
             answer_of result,
             (record { before = list; turn = turn }, refl, refl, refl),
@@ -92,9 +92,9 @@ module _ {D Y F B : Type 0} {of_disk : Disk.Ghosts D} {of_yard : Yard.Ghosts Y F
     look_turn : Turn
     look_turn = turn_of look (looks (look_reply (history_of base list))) (held_of old).down
 
-    look_goes : Goes only first base longest old (list ++ look_turn ∷ [])
+    look_goes : Goes at_now first base longest old (list ++ look_turn ∷ [])
     unfolding look_turn
-    look_goes = goes_same only first base longest old list look_turn goes refl
+    look_goes = goes_same at_now first base longest old list look_turn goes refl
         (record { asked = tt; of_job = tt; answers = inr refl; is_down = goes.takes.down }) refl goes.takes.down
         (pending_stays list look (looks (look_reply (history_of base list))) (held_of old).down goes.takes.down
         (λ n. refl))
@@ -114,7 +114,7 @@ module _ {D Y F B : Type 0} {of_disk : Disk.Ghosts D} {of_yard : Yard.Ghosts Y F
           more = look_turn ∷ [];
           reads = n + a.reads_of asked h;
           goes = subst (λ (e : Engine D Y F B of_disk of_yard of_file of_build).
-              Goes only first base longest e (list ++ look_turn ∷ [])) (sym same) look_goes;
+              Goes at_now first base longest e (list ++ look_turn ∷ [])) (sym same) look_goes;
           answers = lines (turns_behind 0 list (look_turn ∷ [])) answer (n + a.reads_of asked h) (
             h,
             (record { before = list; turn = look_turn }, refl, refl, refl, refl),
@@ -127,7 +127,7 @@ module _ {D Y F B : Type 0} {of_disk : Disk.Ghosts D} {of_yard : Yard.Ghosts Y F
 
   -- what a command of a line uses, by its step
   command_line : (old new : Engine D Y F B of_disk of_yard of_file of_build) (list : List Turn) (n : ℕ) (line : List ℕ)
-      (asked : Command) (answer : Reply) → Goes only first base longest old list → Asks line asked
+      (asked : Command) (answer : Reply) → Goes at_now first base longest old list → Asks line asked
       → asked ≢ command.Quit → Step old asked answer new → Lines n line asked
       → t.AnswersLine base (state n) line [] (Some reply.Memory) (state n)
       → Served1 new list n line (Some answer)
@@ -159,7 +159,7 @@ module _ {D Y F B : Type 0} {of_disk : Disk.Ghosts D} {of_yard : Yard.Ghosts Y F
       → Step (engine_of old) asked said (engine_of new)) where
     -- one line of the session uses what its command uses
     serves_line : (old new : S) (list : List Turn) (n : ℕ) (line : List ℕ) (answer : Option Reply)
-        → Goes only first base longest (engine_of old) list → s.AnswersLine answers old line answer new
+        → Goes at_now first base longest (engine_of old) list → s.AnswersLine answers old line answer new
         → Served1 (engine_of new) list n line answer
     serves_line old new list n [] answer goes (none, same) =
         none_used (engine_of new) (engine_of old) list n [] answer goes (ap engine_of same) (refl, none, refl)
@@ -183,21 +183,21 @@ module _ {D Y F B : Type 0} {of_disk : Disk.Ghosts D} {of_yard : Yard.Ghosts Y F
       pub more : List Turn
       pub served : List Served
       pub reads : ℕ
-      pub goes : Goes only first base longest (engine_of new) (list ++ more)
+      pub goes : Goes at_now first base longest (engine_of new) (list ++ more)
       pub answered : t.AnswersLines base (state n) served (state reads)
       pub used : turns_behind 0 list more ≡ flat_map (λ s. s.used) served
       pub lines : t.lines_of served ≡ s.lines_of exchanges
       pub texts : t.texts_of served ≡ s.texts_of exchanges
 
     pub serves_lines : (old new : S) (list : List Turn) (n : ℕ) (exchanges : List Exchange)
-        → Goes only first base longest (engine_of old) list → s.AnswersLines answers old exchanges new
+        → Goes at_now first base longest (engine_of old) list → s.AnswersLines answers old exchanges new
         → ServedAll new list n exchanges
     serves_lines old new list n [] goes same = record {
       more = [];
       served = [];
       reads = n;
-      goes = subst (λ (e : S). Goes only first base longest (engine_of e) (list ++ [])) (sym same)
-          (subst (λ (g : List Turn). Goes only first base longest (engine_of old) g) (sym (append-nil list)) goes);
+      goes = subst (λ (e : S). Goes at_now first base longest (engine_of e) (list ++ [])) (sym same)
+          (subst (λ (g : List Turn). Goes at_now first base longest (engine_of old) g) (sym (append-nil list)) goes);
       answered = refl;
       used = refl;
       lines = refl;
@@ -215,7 +215,7 @@ module _ {D Y F B : Type 0} {of_disk : Disk.Ghosts D} {of_yard : Yard.Ghosts Y F
           more = one.more ++ rest.more;
           served = served ∷ rest.served;
           reads = rest.reads;
-          goes = subst (λ (g : List Turn). Goes only first base longest (engine_of new) g)
+          goes = subst (λ (g : List Turn). Goes at_now first base longest (engine_of new) g)
               (append_assoc list one.more rest.more) rest.goes;
           answered = (state one.reads, one.answers, rest.answered);
           used = visits-append 0 list one.more rest.more

@@ -32,7 +32,8 @@ module _ {D Y F B : Type 0} {of_disk : Disk.Ghosts D} {of_yard : Yard.Ghosts Y F
       (turns : List Turn) : Type 0 where
     pub stands : StandsFor of_disk.seen of_disk.may_leave (journal_of new) (disk_of new) (history_of base turns)
         (pending_of turns)
-    pub crash : Acknowledges of_disk.may_leave of_disk.moment of_disk.left_since base turns (disk_of old) (disk_of new)
+    pub crash : Acknowledges of_disk.seen of_disk.may_leave of_disk.moment of_disk.left_since base turns
+        (disk_of old) (disk_of new)
     pub since : Since of_disk.moment of_disk.left_since (disk_of old) (disk_of new) (ShowsFrom base turns 0)
 
   -- turns of author 0 were taken with the engine

@@ -1,5 +1,5 @@
 -- The entry that a broken append may have left behind turns, and what a crash leaves since each of them.
-use Rattle.std.specs.Prelude.{ℕ, ◌≡◌, ◌+◌, ◌≤◌, List, [], ◌∷◌, length, take, slice_get, Option, Some, None}
+use Rattle.std.specs.Prelude.{ℕ, ◌≡◌, ◌+◌, ◌≤◌, List, [], ◌∷◌, length, take, slice_get, Option, Some, None, IsSome}
 use Rattle.disk_model.specs.Logs.{Image, Outcomes}
 use Rattle.doc_engine.specs.Standing.{ShowsWith}
 use Rattle.doc_meaning.specs.History.{Base}
@@ -36,16 +36,22 @@ pub record ShowsFrom (base : Base) (turns : List Turn) (least : ℕ) (image : Im
   pub some : count ≤ length turns
   pub shows : ShowsWith (history_of base (take count turns)) (pending_of (take count turns)) image
 
--- behind each turn the disk stood at some state, in which each image shows the history of the turns up to it, or it
--- with the entry that was broken off; and a crash since then leaves that history at least. The first state is the one
--- before all turns, the last one is now
-pub record Acknowledges {D : Type 0} (may_leave : D → Outcomes) (moment : D → ℕ) (left_since : D → ℕ → Outcomes)
-    (base : Base) (turns : List Turn) (old new : D) : Type 0 where
+-- behind each turn the disk stood at some state, one after the other: in it each image shows the history of the turns
+-- up to it, or it with the entry that was broken off; and a crash since then leaves that history at least. The first
+-- state is the one before all turns, the last one is now
+pub record Acknowledges {D : Type 0} (seen : D → Option Image) (may_leave : D → Outcomes) (moment : D → ℕ)
+    (left_since : D → ℕ → Outcomes) (base : Base) (turns : List Turn) (old new : D) : Type 0 where
   pub states : List D
   pub each : length states ≡ length turns + 1
   pub first : slice_get states 0 ≡ Some old
   pub last : slice_get states (length turns) ≡ Some new
+  pub told : (k : ℕ) (state : D) → slice_get states k ≡ Some state → IsSome (seen state)
+  pub later : (k : ℕ) (state next : D) → slice_get states k ≡ Some state → slice_get states (k + 1) ≡ Some next
+      → moment state ≤ moment next
   pub past : (k : ℕ) (state : D) → slice_get states k ≡ Some state → moment state ≤ moment new
+  -- what a crash might have left then counts among what might have been left since
+  pub stood : (k : ℕ) (state : D) (c : Image) → slice_get states k ≡ Some state → may_leave state c
+      → left_since new (moment state) c
   pub shows : (k : ℕ) (state : D) (c : Image) → slice_get states k ≡ Some state → may_leave state c
       → ShowsWith (history_of base (take k turns)) (pending_of (take k turns)) c
   pub left : (k : ℕ) (state : D) (c : Image) → slice_get states k ≡ Some state → left_since new (moment state) c

@@ -29,14 +29,13 @@ pub fn serve<R, D: Disk, Y: Yard, I: Source, W: Sink>(
     source: &mut I,
     sink: &mut W,
 ) -> (Engine<D, Y>, SessionEnd)
-    requires { (held_of engine).down ≡ None }
     ensures attended { (input : List ℕ) × (output : List ℕ) × (over : Bool)
         × Consumes (I.left source.old) (I.left source.new) input
         × Appends (W.written sink.old) (W.written sink.new) output
         × (IsTrue over → IsAtEnd (I.left source.new))
         × HasEnded input output over result.1
         × ((base : Base) (longest : ℕ) → IsBase base → IsAt (held_of engine) (begins base)
-        → end_of (current_log (journal_of engine)) ≤ longest
+        → (held_of engine).down ≡ None → end_of (current_log (journal_of engine)) ≤ longest
         → Attended engine result.0 base longest input output over result.1) }
     ensures yard { yard_of result.0 ≡ yard_of engine }
     ensures later { D.faults (disk_of engine) ≤ D.faults (disk_of result.0) }

@@ -5,7 +5,7 @@ use Rattle.std.proofs.Math.Seq.{take-append-add}
 use Rattle.disk_model.specs.Logs.{Image, Outcomes}
 use Rattle.frame_log.specs.Standing.{OnlyRead}
 use Rattle.frame_log.specs.Scanned.{IsRead}
-use Rattle.frame_log.proofs.Stretches.{throughout_weaker, throughout_then}
+use Rattle.frame_log.proofs.Stretches.{throughout_still, throughout_weaker, throughout_then}
 
 pub if_some : {A : Type 0} {P Q : A → Type 0} (o : Option A) → IfSome o P → ((x : A) → P x → Q x) → IfSome o Q
 if_some None is then = tt
@@ -48,7 +48,7 @@ module _ {D : Type 0} (seen : D → Option Image) (may_leave : D → Outcomes) (
   only_read_same disk only = record {
     same = refl;
     fewer = λ c left. left;
-    images = record { later = omega arith; each = only; earlier = λ t c le left. inl left };
+    images = throughout_still _ _ _ _ only (λ c may. may);
   }
 
   pub only_read_more : (old mid new : D) → OnlyRead seen may_leave moment left_since old mid → OnlyRead seen

@@ -10,6 +10,7 @@ throughout_still now since may_leave P only is = record {
   later = omega arith;
   each = λ c left. is c (only c left);
   earlier = λ t c le left. inl left;
+  keeps = λ t c le was. was;
 }
 
 pub throughout_weaker : (before now : ℕ) (past since : ℕ → Outcomes) (P Q : Image → Type 0)
@@ -18,6 +19,7 @@ throughout_weaker before now past since P Q all is = record {
   later = all.later;
   each = λ c left. is c (all.each c left);
   earlier = λ t c le left. ⊎_elim (λ then. inl then) (λ p. inr (is c p)) (all.earlier t c le left);
+  keeps = all.keeps;
 }
 
 pub throughout_both : (before now : ℕ) (past since : ℕ → Outcomes) (P Q : Image → Type 0)
@@ -29,6 +31,7 @@ throughout_both before now past since P Q first second = record {
   earlier = λ t c le left.
       ⊎_elim (λ then. inl then) (λ p. ⊎_elim (λ then. inl then) (λ q. inr (p, q)) (second.earlier t c le left))
       (first.earlier t c le left);
+  keeps = first.keeps;
 }
 
 pub throughout_then : (before middle now : ℕ) (past between since : ℕ → Outcomes) (P : Image → Type 0)
@@ -39,4 +42,5 @@ throughout_then before middle now past between since P first second = record {
   each = λ c left. ⊎_elim (λ then. first.each c then) (λ p. p) (second.earlier before c first.later left);
   earlier = λ t c le left. ⊎_elim (λ then. first.earlier t c le then) (λ p. inr p)
       (second.earlier t c (omega (arith, le, first.later)) left);
+  keeps = λ t c le was. second.keeps t c (omega (arith, le, first.later)) (first.keeps t c le was);
 }

@@ -79,7 +79,7 @@ module _ {D : Type 0} (seen : D → Option Image) (may_leave : D → Outcomes) (
       → StandsWith seen may_leave old before kept no_bodies
       → Throughout (moment before) (moment after) (left_since before) (left_since after) (MayHaveBodies held more)
   may_have_bodies kept held more same none here stands =
-      throughout_all LOG_COUNT _ _ _ _ (λ k c. MayHave (held k) (more k) (c k)) here.later
+      throughout_all LOG_COUNT _ _ _ _ (λ k c. MayHave (held k) (more k) (c k)) here.later here.keeps
       (each_log (λ k. Throughout (moment before) (moment after) (left_since before) (left_since after)
       (λ c. MayHave (held k) (more k) (c k))) file here
       (λ other lt apart.

@@ -16,10 +16,12 @@ all_or (suc n) A P each =
     (all_or n A P (λ k lt. each k (omega (arith, lt))))
 
 pub throughout_all : (n before now : ℕ) (past since : ℕ → Outcomes) (P : ℕ → Image → Type 0) → before ≤ now
+    → ((t : ℕ) (c : Image) → t ≤ before → past t c → since t c)
     → ((k : ℕ) → k < n → Throughout before now past since (P k))
     → Throughout before now past since (λ c. (k : ℕ) → k < n → P k c)
-throughout_all n before now past since P later all = record {
+throughout_all n before now past since P later keeps all = record {
   later = later;
   each = λ c left k lt. (all k lt).each c left;
   earlier = λ t c le left. all_or n (past t c) (λ k. P k c) (λ k lt. (all k lt).earlier t c le left);
+  keeps = keeps;
 }

@@ -67,9 +67,6 @@ fn answers(
     input: &[u8],
     output: &[u8],
 ) -> Result<(MemoryEngine, bool), Fail> {
-    if engine.is_down() {
-        return Err("its log is down".into());
-    }
     let mut source = MemorySource::new(input.to_vec(alloc)?, 4096, smooth(alloc));
     let mut sink = MemorySink::new(alloc, smooth(alloc));
     let (engine, how) = serve(&(), alloc, engine, &mut source, &mut sink);

@@ -14,6 +14,7 @@ returns-in-Ok g c =
       opens = before.opened;
       longest = before.longest;
       shown = before.images;
+      up = before.up;
       yard = before.yard;
       later = before.later;
     })

@@ -2,6 +2,7 @@ use denote.Param.Always.{mut_total}
 use denote.Param.Send.{Quiet-if}
 use mir.Syntax.{of_param}
 use Rattle.engine_session.proofs.Calling.{attended_by, stays_by}
+use Rattle.engine_session.proofs.Crashing.{leaves_now}
 use Rattle.engine_session.proofs.Ending.{has_ended}
 use Rattle.engine_session.proofs.serving.serve.Goals as goal
 
@@ -22,6 +23,7 @@ session-how-requires-after_bounds g c κs within =
 pub returns-clause-attended : goal.returns-clause-attended
 returns-clause-attended g c =
     let laws = g.met.D.Disk g.world.𝓛 g.world.𝓜 g.world.𝓡 ((λ s x. x), (λ x. x), (λ x. x), λ x. x) in
+    let now = leaves_now g.D.Disk.may_leave g.D.Disk.moment g.D.Disk.left_since laws.only_now laws.counts_now in
     let (input, output, over, came, went, at_end, serves) = c.session-how.ensures.serves in (
       input,
       output,
@@ -30,20 +32,22 @@ returns-clause-attended g c =
       went,
       at_end,
       has_ended _ _ _ input output c.session-how.result over serves,
-      λ base longest is_base is_at short. attended_by laws.only_now _ _ _ input output c.session-how.result over serves
-          (λ f p asked said q f' met. met.1.0) base longest is_base is_at c.requires short,
+      λ base longest is_base is_at up short. attended_by now _ _ _ input output c.session-how.result over serves
+          (λ f p asked said q f' met. met.1.0) base longest is_base is_at up short,
     )
 
 pub returns-clause-yard : goal.returns-clause-yard
 returns-clause-yard g c =
     let laws = g.met.D.Disk g.world.𝓛 g.world.𝓜 g.world.𝓡 ((λ s x. x), (λ x. x), (λ x. x), λ x. x) in
+    let now = leaves_now g.D.Disk.may_leave g.D.Disk.moment g.D.Disk.left_since laws.only_now laws.counts_now in
     let (input, output, over, came, went, at_end, serves) = c.session-how.ensures.serves in
-    (stays_by laws.only_now _ _ _ input output c.session-how.result over serves
+    (stays_by now _ _ _ input output c.session-how.result over serves
     (λ f p asked said q f' met. met.1.0)).yard
 
 pub returns-clause-later : goal.returns-clause-later
 returns-clause-later g c =
     let laws = g.met.D.Disk g.world.𝓛 g.world.𝓜 g.world.𝓡 ((λ s x. x), (λ x. x), (λ x. x), λ x. x) in
+    let now = leaves_now g.D.Disk.may_leave g.D.Disk.moment g.D.Disk.left_since laws.only_now laws.counts_now in
     let (input, output, over, came, went, at_end, serves) = c.session-how.ensures.serves in
-    (stays_by laws.only_now _ _ _ input output c.session-how.result over serves
+    (stays_by now _ _ _ input output c.session-how.result over serves
     (λ f p asked said q f' met. met.1.0)).later
