@@ -1,16 +1,13 @@
-// Commits, the bytes that they leave, crashes, and directories that are opened again.
-ghost use Rattle.std.specs.Prelude.{◌≡◌, [], IfOk, IsTrue};
-ghost use Rattle.doc_model.specs.Operations.{removes_uri};
-
+// Commits, the bytes that they leave, a fault, and directories that are opened again.
 mod bytes;
 mod commits;
-mod crashes;
+mod faults;
 mod opening;
 
+use crate::fixtures::{object, plain_settings, put};
 use disk_memory::{MemoryDisk, MemoryYard, Meter, Plan, blank_logs};
 use doc_engine::{CommitRefusal, Engine};
-use doc_model::{Document, Indexes, Node, Op, Ops, Settings, Text, Texts};
-use sqlite_items::Items;
+use doc_model::{Node, Ops};
 use std::alloc::{AllocError, Global};
 use std::test::Fail;
 
@@ -24,16 +21,6 @@ fn meter(alloc: Global, failing: &[u64], stop: Option<u64>) -> Result<Meter, All
 // One under which no call fails.
 fn smooth(alloc: Global) -> Result<Meter, AllocError> {
     meter(alloc, &[], None)
-}
-
-fn plain_settings(alloc: Global) -> Settings
-    ensures { result.indexes ≡ [] }
-{
-    Settings {
-        indexes: Indexes::none(alloc),
-        save_at: 10_000,
-        merge_at: 8,
-    }
 }
 
 // An engine over a directory that was made.
@@ -77,34 +64,6 @@ fn opened(alloc: Global, disk: MemoryDisk) -> Result<MemoryEngine, Fail> {
         Ok(engine) => Ok(engine),
         Err(_) => Err("it isn't opened")?,
     }
-}
-
-// The member `"t":TEXT`.
-fn member(alloc: Global, text: &str) -> Result<(Text, Node), Fail> {
-    let name = Text::from_str(alloc, "t")?;
-    let text = Text::from_str(alloc, text)?;
-    Ok((name, Node::Text(text)))
-}
-
-// The object `{"t":TEXT}`.
-fn object(alloc: Global, text: &str) -> Result<Node, Fail> {
-    let member = member(alloc, text)?;
-    let mut members = Items::new(alloc);
-    members.push(member)?;
-    Ok(Node::Members(members))
-}
-
-// A document without collections.
-fn document(alloc: Global, uri: &str, root: Node) -> Result<Document, Fail> {
-    let uri = Text::from_str(alloc, uri)?;
-    Ok(Document::new(alloc, uri, Texts::new(alloc), root)?)
-}
-
-fn put(alloc: Global, uri: &str, root: Node, expect: Option<u64>) -> Result<Op, Fail>
-    ensures { IfOk result (λ op. IsTrue (removes_uri op)) }
-{
-    let document = document(alloc, uri, root)?;
-    Ok(Op::Put { document, expect })
 }
 
 // A commit that puts one document.

@@ -1,38 +1,19 @@
 // Commits that are found again, and refusals.
-ghost use Rattle.std.specs.Prelude.{IfOk, IsTrue};
-ghost use Rattle.doc_model.specs.Operations.{removes_uri};
-
-use super::{MemoryEngine, commit, empty, object, put, reopened};
+use super::{MemoryEngine, commit, empty, reopened};
+use crate::fixtures::{put_text, word};
 use doc_engine::CommitRefusal;
-use doc_model::{Case, Op, Ops, Query, Text, Texts};
-use std::alloc::{AllocError, Global};
+use doc_model::{Ops, Texts};
+use std::alloc::Global;
 use std::test::Fail;
-
-// A put of `{"t":TEXT}` under `/a`.
-fn put_text(alloc: Global, text: &str) -> Result<Op, Fail>
-    ensures { IfOk result (λ op. IsTrue (removes_uri op)) }
-{
-    put(alloc, "/a", object(alloc, text)?, None)
-}
 
 // A commit that names a URI twice.
 fn twice(alloc: Global) -> Result<Ops, Fail> {
-    let first = put_text(alloc, "red fox")?;
-    let second = put_text(alloc, "old fox")?;
+    let first = put_text(alloc, "/a", "red fox", None)?;
+    let second = put_text(alloc, "/a", "old fox", None)?;
     let mut list = Vec::new(alloc);
     list.push(first)?;
     list.push(second)?;
     Ok(Ops::new(list)?)
-}
-
-fn word(alloc: Global, text: &str) -> Result<Query, AllocError> {
-    let text = Text::from_str(alloc, text)?;
-    let mut texts = Texts::new(alloc);
-    texts.push(text)?;
-    Ok(Query::Word {
-        texts,
-        case: Case::Auto,
-    })
 }
 
 // The first version of `/a` is the only entry.

@@ -1,5 +1,6 @@
 // Directories of any timestamps are opened.
-use super::{MemoryEngine, commit, opened, plain_settings, smooth};
+use super::{MemoryEngine, commit, opened, smooth};
+use crate::fixtures::plain_settings;
 use disk_memory::{MemoryDisk, blank_logs};
 use doc_engine::CommitRefusal;
 use doc_meaning::LAST_TIMESTAMP;
