@@ -2,7 +2,7 @@
 #![tactic(auto)]
 
 #[cfg(test)]
-mod attending;
+mod engine_sessions;
 #[cfg(test)]
 mod runs;
 #[cfg(test)]

@@ -6,5 +6,6 @@ mod disks;
 mod faults;
 mod openings;
 mod rows;
+mod scripts;
 mod words;
 mod worlds;

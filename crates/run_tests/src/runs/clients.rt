@@ -111,8 +111,8 @@ fn serve_failing(
     let status = serve(alloc, world)?;
     let is_back = world.client_back(0).is_some();
     assert_eq!(rt;
-        (status, printed(world)?, is_back),
-        (Status::Fault, "made\nfault\n", back),
+        (status, status.code(), printed(world)?, is_back),
+        (Status::Fault, 3, "made\nfault\n", back),
         "at {call}"
     );
     Ok(())

@@ -92,8 +92,8 @@ fn log(alloc: Global, disk: &mut MemoryDisk, file: u8) -> Result<Vec<u8>, Fail>
     Ok(bytes[..count].to_vec(alloc)?)
 }
 
-/// What the logs hold.
-pub(super) fn contents(alloc: Global, disk: &mut MemoryDisk) -> Result<Contents, Fail> {
+// What the logs hold.
+fn contents(alloc: Global, disk: &mut MemoryDisk) -> Result<Contents, Fail> {
     let mut logs = Vec::new(alloc);
     for file in 0..LOG_COUNT {
         logs.push(log(alloc, disk, file)?)?;

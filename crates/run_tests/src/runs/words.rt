@@ -64,7 +64,7 @@ fn what_was_put_is_found_by_the_next_run(rt: HostRuntime) -> Result<(), Fail> {
     Ok(())
 }
 
-// Two databases are made. The first one serves the first client and the last one, the other one the client between them.
+// Two databases are made. The first one serves the first and the last client, the other one the client between them.
 fn make_and_serve_both(rt: &impl Abort, alloc: Global, world: &mut MemoryWorld) -> Result<(), Fail>
     requires { IsIdle ⟦<MemoryDisk as Disk>⟧ ⟦<MemoryYard as Yard>⟧ ⟦<MemoryWorld as World>⟧ world.old }
     ensures { IsIdle ⟦<MemoryDisk as Disk>⟧ ⟦<MemoryYard as Yard>⟧ ⟦<MemoryWorld as World>⟧ world.new }
