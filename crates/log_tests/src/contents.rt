@@ -1,4 +1,4 @@
-ghost use Rattle.std.specs.Prelude.{ℕ, List, ◌≡◌, ◌<◌, ◌^◌, length, IfOk};
+ghost use Rattle.std.specs.Prelude.{ℕ, List, ◌<◌, ◌^◌, length, IfOk};
 ghost use Rattle.frame_log.specs.Frames.{framed};
 ghost use Rattle.journal_meaning.specs.Bodies.{SpellEntries};
 ghost use Rattle.journal_reading.specs.Reading.{items_of};

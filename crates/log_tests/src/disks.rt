@@ -1,6 +1,4 @@
 // The disk model in memory, tried by crashes at each length of a write and stops at each call.
-ghost use Rattle.std.specs.Prelude.{◌<◌, length};
-
 mod files;
 mod worlds;
 

@@ -4,7 +4,7 @@ ghost use Rattle.journal.specs.Making.{HasShortNames};
 use disk_memory::{MemoryDisk, Meter, Plan, blank_logs};
 use disk_model::{Disk, Failed};
 use doc_model::{Entry, Indexes, Settings};
-use frame_log::{Frame, LogRefusal};
+use frame_log::Frame;
 use journal::{JournalRefusal, MakeRefusal, make, scan_all};
 use journal_bodies::entry_body;
 use std::alloc::{AllocError, AllocFailed, Global};
@@ -14,7 +14,6 @@ use std::process::Abort;
 enum Fail {
     Memory,
     Device,
-    Log(LogRefusal),
     Scan(JournalRefusal),
     Make(MakeRefusal),
 }
@@ -34,18 +33,6 @@ impl<T: Drop> From<AllocFailed<T>> for Fail {
 impl From<Failed> for Fail {
     fn from(_: Failed) -> Fail {
         Fail::Device
-    }
-}
-
-impl From<LogRefusal> for Fail {
-    fn from(refusal: LogRefusal) -> Fail {
-        Fail::Log(refusal)
-    }
-}
-
-impl From<JournalRefusal> for Fail {
-    fn from(refusal: JournalRefusal) -> Fail {
-        Fail::Scan(refusal)
     }
 }
 

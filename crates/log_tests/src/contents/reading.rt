@@ -15,7 +15,7 @@ fn gates_stand_behind_the_frames_before_them(rt: HostRuntime) -> Result<(), Fail
 }
 
 /// The bodies of a commit, and of a forget behind it.
-fn journal_bodies(rt: &impl Abort, alloc: Global) -> Result<Vec<Vec<u8>>, Fail> {
+fn two_bodies(rt: &impl Abort, alloc: Global) -> Result<Vec<Vec<u8>>, Fail> {
     let mut bodies = forget_bodies(rt, alloc, &[(2, 1)])?;
     bodies.insert(0, Vec::from_slice(alloc, PUT)?)?;
     Ok(bodies)
@@ -24,7 +24,7 @@ fn journal_bodies(rt: &impl Abort, alloc: Global) -> Result<Vec<Vec<u8>>, Fail> 
 #[test]
 fn a_journal_is_read(rt: HostRuntime) -> Result<(), Fail> {
     let alloc = rt.alloc();
-    let bodies = journal_bodies(&rt, alloc)?;
+    let bodies = two_bodies(&rt, alloc)?;
     check_short(&rt, &bodies);
     let entries = entries_of(alloc, &bodies)?;
     assert_eq!(rt; entries.len(), 2);

@@ -1,9 +1,7 @@
 // Sealed files, sources and sinks.
-ghost use Rattle.std.specs.Prelude.{◌<◌, length};
-
 use super::{Fail, bytes_of, smooth};
 use disk_memory::{MemoryFile, MemoryPort, MemorySink, MemorySource, MemoryYard, blank_store};
-use disk_model::{Build, Failed, Port, SealedFile, Sink, Source, Store, Yard};
+use disk_model::{Build, Failed, Port, Sink, Source, Store, Yard};
 use std::alloc::Global;
 
 fn sealed(yard: &mut MemoryYard) -> Result<MemoryFile, Failed> {

@@ -1,6 +1,4 @@
 // What a world hands out and takes back.
-ghost use Rattle.std.specs.Prelude.{◌<◌, length};
-
 use super::{Fail, append, bytes_of, content, smooth};
 use disk_memory::{MemoryClient, MemoryPort, MemorySink, MemorySource, MemoryWorld};
 use disk_model::{Client, Sink, Store, World};

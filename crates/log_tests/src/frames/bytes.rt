@@ -70,9 +70,8 @@ fn check_bytes(rt: &impl Abort, disk: &mut MemoryDisk, wanted: &[u8]) -> Result<
 fn check_bodies(rt: &impl Abort, alloc: Global, disk: &mut MemoryDisk) -> Result<(), Fail> {
     let (_, bodies) = scan(alloc, disk, 0)?;
     assert_eq!(rt; bodies.len(), 2);
-    for body in &bodies {
-        assert!(rt; body.is_empty() || body.as_slice() == b"hi".as_slice());
-    }
+    assert_eq!(rt; bodies[0].as_slice(), b"hi".as_slice());
+    assert_eq!(rt; bodies[1].len(), 0);
     Ok(())
 }
 
