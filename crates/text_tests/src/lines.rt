@@ -1,3 +1,3 @@
 // Lines near the three forms, and the text of each reply.
-mod lines;
+mod reading;
 mod texts;
