@@ -48,21 +48,21 @@ values_number units = ap has_values (sym (node.rolls-Num units)) ∙ fold-roll-N
 values_text : (text : List ℕ) → has_values (node.Text text) ≡ is_utf8 text
 values_text text = ap has_values (sym (node.rolls-Text text)) ∙ fold-roll-Node Bool values_step (Node-F.Text text)
 
-depth_items : (list : List Node) → depth (node.Items list) ≡ 1 + greatest (map depth list)
+pub depth_items : (list : List Node) → depth (node.Items list) ≡ 1 + greatest (map depth list)
 depth_items list = ap depth (sym (node.rolls-Items list)) ∙ fold-roll-Node ℕ depth_step (Node-F.Items list)
 
-depth_members : (list : List Member) → depth (node.Members list) ≡ 1 + greatest (map (λ m. depth m.1) list)
+pub depth_members : (list : List Member) → depth (node.Members list) ≡ 1 + greatest (map (λ m. depth m.1) list)
 depth_members list = ap depth (sym (node.rolls-Members list)) ∙ fold-roll-Node ℕ depth_step (Node-F.Members list)
     ∙ ap (λ ds. 1 + greatest ds) (map-map (λ (m : List ℕ × ℕ). m.1) (λ (m : Member). (m.0, depth m.1)) list)
 
-names_items : (list : List Node) → has_distinct_names (node.Items list) ≡ list_all has_distinct_names list
+pub names_items : (list : List Node) → has_distinct_names (node.Items list) ≡ list_all has_distinct_names list
 names_items list = ap has_distinct_names (sym (node.rolls-Items list)) ∙ fold-roll-Node Bool names_step
     (Node-F.Items list) ∙ list_all-map (λ item. item) has_distinct_names list
 
 names : List Member → List (List ℕ)
 names list = map (λ m. m.0) list
 
-names_members : (list : List Member) →
+pub names_members : (list : List Member) →
     has_distinct_names (node.Members list) ≡ (is_distinct (map (λ m. m.0) list) && list_all (λ m. has_distinct_names m.1) list)
 names_members list = ap has_distinct_names (sym (node.rolls-Members list)) ∙ fold-roll-Node Bool names_step (Node-F.Members list)
     ∙ ap (λ ns. is_distinct ns && list_all (λ (m : List ℕ × Bool). m.1)

@@ -133,7 +133,7 @@ bracketed : (opening closing : ℕ) (inner behind bytes : List ℕ) → bytes �
 bracketed opening closing inner behind bytes e =
     ap (λ (z : List ℕ). opening ∷ z) (e ∙ sym (append_assoc inner (closing ∷ []) behind))
 
-bracketed_utf8 : (opening closing : ℕ) (inner : List ℕ) → opening < 128 → closing < 128 → IsUtf8 inner →
+pub bracketed_utf8 : (opening closing : ℕ) (inner : List ℕ) → opening < 128 → closing < 128 → IsUtf8 inner →
     IsUtf8 (opening ∷ inner ++ closing ∷ [])
 bracketed_utf8 opening closing inner o c h =
     cons_utf8 opening (inner ++ closing ∷ [])

@@ -50,3 +50,7 @@ pub mod EscapedRuns
 pub mod CanonicalNumbers
 pub mod CanonicalTexts
 pub mod CanonicalTrees
+pub mod StringSizes
+pub mod KeptMembers
+pub mod KeptRules
+pub mod WrittenUtf8

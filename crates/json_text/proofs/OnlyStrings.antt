@@ -237,7 +237,7 @@ pair_taken a b c d e f g i chars h l others run text rest p q t u =
     x.whole taken
 
 -- a surrogate without its partner is no text
-low_alone : (a b c d : ℕ) (chars : List Char) → is_high (unit_value a b c d) ≡ false →
+pub low_alone : (a b c d : ℕ) (chars : List Char) → is_high (unit_value a b c d) ≡ false →
     is_low (unit_value a b c d) ≡ true →
     text_of (unit a b c d ∷ chars) ≡ None
 low_alone a b c d [] h l = rw (h, l) refl

@@ -1,10 +1,13 @@
 -- What stands before the place of a fault, and at it.
-use Rattle.std.specs.Prelude.{ℕ, zero, suc, ◌≡◌, ◌+◌, ◌<◌, ◌≤◌, ◌⊎◌, List, [], ◌∷◌, ◌++◌, length, take, drop, None, IsTrue}
+use Rattle.std.specs.Prelude.{ℕ, zero, suc, ◌≡◌, ◌+◌, ◌<◌, ◌≤◌, ◌⊎◌, List, [], ◌∷◌, ◌++◌, length, take, drop, None, Err, IsTrue}
 use Rattle.std.specs.List.{list_all}
 use Rattle.std.specs.Str.{IsUtf8, IsValidUpTo}
 use Rattle.doc_model.specs.declared.node.Node.{Node}
 use Rattle.json_text.specs.declared.bad.JsonBad.{JsonBad}
 use Rattle.json_text.specs.declared.bad.JsonBad.TheVariants as bad
+use Rattle.json_text.specs.declared.fault.Fault.{Fault}
+use Rattle.json_text.specs.Answers.{placed}
+use Rattle.json_text.specs.Reading.{text_read}
 use Rattle.json_text.specs.Numbers.{Literal, IsLiteral, literal_text, IsNumber}
 use Rattle.json_text.specs.Strings.{Char, short, unit, is_char, char_text, string_text, unit_value, is_high, is_low}
 use Rattle.json_text.specs.Grammar.{IsWhite, Padded, joined, null_text, true_text, false_text, IsJson}
@@ -142,3 +145,10 @@ FaultAt bytes (bad.Utf8 place) = IsPlace bytes place × (IsValidUpTo bytes place
 FaultAt bytes (bad.Depth place) = IsPlace bytes place × IsTooDeep bytes place
 FaultAt bytes (bad.Number place) = IsPlace bytes place × IsOutOfRange bytes place
 FaultAt bytes bad.Memory = Unit {0}
+
+-- the text is refused so: this is what the fault says, and it is the first one that reading from left to right meets
+pub record IsRefusedText (bytes : List ℕ) (why : JsonBad) : Type 0 where
+  pub says : FaultAt bytes why
+  pub fault : Fault
+  pub read : text_read bytes ≡ Err fault
+  pub at : why ≡ placed (length bytes) fault

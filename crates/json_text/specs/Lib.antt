@@ -7,3 +7,4 @@ pub mod Reading
 pub mod Answers
 pub mod Faults
 pub mod Canonical
+pub mod Laws

@@ -6,6 +6,7 @@ mod bad;
 mod escape;
 mod fault;
 mod kept;
+mod laws;
 mod lead;
 mod literal;
 mod plain;
@@ -18,5 +19,9 @@ mod worth;
 mod writing;
 
 pub use bad::JsonBad;
+pub use laws::{
+    canonical_texts_are_read, one_tree_is_meant, read_or_refused, refused_in_one_way,
+    trees_keep_rules,
+};
 pub use reading::read;
 pub use writing::write;

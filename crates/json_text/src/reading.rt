@@ -1,9 +1,11 @@
-ghost use Rattle.std.specs.Prelude.{◌≡◌, ◌-◌, IfOk, IfErr};
+ghost use Rattle.std.specs.Prelude.{◌≡◌, ◌≢◌, ◌-◌, IfOk, IfErr};
 ghost use Rattle.doc_model.specs.declared.node.Node.{Node};
 ghost use Rattle.json_text.specs.Answers.{Answers, Takes, placed};
-ghost use Rattle.json_text.specs.Faults.{FaultAt};
+ghost use Rattle.json_text.specs.Faults.{IsRefusedText};
 ghost use Rattle.json_text.specs.Grammar.{IsJson};
+ghost use Rattle.json_text.specs.Laws.{KeepsRules};
 ghost use Rattle.json_text.specs.Reading.{Gives, text_read};
+ghost use Rattle.json_text.specs.declared.bad.JsonBad.TheVariants.{Memory};
 
 use crate::bad::JsonBad;
 use crate::fault::{Fault, Stop};
@@ -56,7 +58,8 @@ fn placed(len: usize, fault: Fault) -> JsonBad
 pub fn read(alloc: Global, bytes: &[u8]) -> Result<Node, JsonBad>
     ensures found { IfOk result (λ v. IsJson bytes.now v) }
     ensures only { (v : Node) → IsJson bytes.now v → Takes v result }
-    ensures fault { IfErr result (λ e. FaultAt bytes.now e) }
+    ensures rules { IfOk result (λ v. KeepsRules bytes.now v) }
+    ensures refused { IfErr result (λ e. e ≢ Memory → IsRefusedText bytes.now e) }
     ensures answer { Answers bytes.now result }
 {
     match whole(alloc, bytes) {
