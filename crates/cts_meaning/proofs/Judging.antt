@@ -1,0 +1,96 @@
+-- A node has no fault as a shape, or a first one.
+use Rattle.std.proofs.Common.{◌≡◌, ℕ, zero, suc, ◌+◌, ◌≤◌, ◌⊎◌, inl, inr, List, [], ◌∷◌, ◌++◌, sum_by, refl, ap, subst, arith}
+use Rattle.std.proofs.lemmas.List.Sums.{sum_by-cons}
+use Rattle.doc_model.specs.declared.node.Node.{Node}
+use Rattle.cts_meaning.specs.Faults.{FaultIn, IsFaultless, IsFirstFault, node_count, number_behind}
+use Rattle.cts_meaning.specs.Shapes.{HasShape, Part}
+use Rattle.cts_meaning.specs.declared.shape.Shape.{Shape}
+use Rattle.cts_meaning.proofs.Counts.{count_some, part_count}
+use Rattle.cts_meaning.proofs.Fitting.{Decided, fit}
+use Rattle.cts_meaning.proofs.Least.{AreFaultless, faultless_of, first_here, first_of_parts, parts_faultless}
+use Rattle.cts_meaning.proofs.Parts.{count_of_parts}
+
+abbrev pub Judged : Shape → Node → Type 0
+Judged wanted n = IsFaultless wanted n ⊎ ((number : ℕ) × IsFirstFault wanted n number)
+
+-- one of the parts is the first that has a fault
+record FirstIn (parts : List Part) : Type 0 where
+  before : List Part
+  part : Part
+  behind : List Part
+  number : ℕ
+  are : parts ≡ before ++ part ∷ behind
+  clean : AreFaultless before
+  first : IsFirstFault part.0 part.1 number
+
+abbrev AreJudged : List Part → Type 0
+AreJudged parts = AreFaultless parts ⊎ FirstIn parts
+
+head_judged : (part : Part) (parts : List Part) → Judged part.0 part.1 → AreJudged parts → AreJudged (part ∷ parts)
+head_judged part parts (inl clean) (inl more) = inl (clean, more)
+head_judged part parts (inl clean) (inr later) = inr (record {
+  before = part ∷ later.before;
+  part = later.part;
+  behind = later.behind;
+  number = later.number;
+  are = ap (λ (ps : List Part). part ∷ ps) later.are;
+  clean = (clean, later.clean);
+  first = later.first;
+})
+head_judged part parts (inr (number, first)) more = inr (record {
+  before = [];
+  part = part;
+  behind = parts;
+  number = number;
+  are = refl;
+  clean = tt;
+  first = first;
+})
+
+parts_judged : (room : ℕ) → ((wanted : Shape) (n : Node) → node_count n ≤ room → Judged wanted n) →
+    (parts : List Part) →
+    sum_by part_count parts ≤ room → AreJudged parts
+parts_judged room judge [] le = inl tt
+parts_judged room judge (part ∷ parts) le =
+    let sum = sum_by-cons part_count part parts in
+    head_judged part parts (judge part.0 part.1 (omega (arith, le, sum)))
+    (parts_judged room judge parts (omega (arith, le, sum)))
+
+from_parts : (wanted : Shape) (n : Node) (parts : List Part) → HasShape wanted n parts → AreJudged parts →
+    Judged wanted n
+from_parts wanted n parts fits (inl clean) = inl (faultless_of wanted n parts fits clean)
+from_parts wanted n parts fits (inr first) = inr (
+  number_behind first.before + first.number,
+  first_of_parts wanted n first.before first.behind first.part first.number
+      (subst (HasShape wanted n) first.are fits) first.clean first.first,
+)
+
+judged_by : (room : ℕ) (wanted : Shape) (n : Node) → node_count n ≤ suc room →
+    ((other : Shape) (m : Node) → node_count m ≤ room → Judged other m) → Decided (HasShape wanted n) → Judged wanted n
+judged_by room wanted n le judge (inl (parts, fits)) =
+    let all = count_of_parts wanted n parts fits in
+    from_parts wanted n parts fits (parts_judged room judge parts (omega (arith, le, all)))
+judged_by room wanted n le judge (inr misfit) = inr (0, first_here wanted n misfit)
+
+judged_within : (room : ℕ) (wanted : Shape) (n : Node) → node_count n ≤ room → Judged wanted n
+judged_within zero wanted n le = absurd (omega (arith, le, count_some n))
+judged_within (suc room) wanted n le = judged_by room wanted n le (judged_within room) (fit wanted n)
+
+pub judged : (wanted : Shape) (n : Node) → Judged wanted n
+judged wanted n = judged_within (node_count n) wanted n (omega arith)
+
+-- ---- a node without a fault
+
+-- its parts, of which none has one either
+pub record Clean (wanted : Shape) (n : Node) : Type 0 where
+  pub parts : List Part
+  pub fits : HasShape wanted n parts
+  pub clean : AreFaultless parts
+
+clean_by : (wanted : Shape) (n : Node) → IsFaultless wanted n → Decided (HasShape wanted n) → Clean wanted n
+clean_by wanted n clean (inl (parts, fits)) =
+    record { parts = parts; fits = fits; clean = parts_faultless wanted n parts fits clean }
+clean_by wanted n clean (inr misfit) = absurd (clean 0 (FaultIn.here wanted n 0 misfit refl))
+
+pub clean_node : (wanted : Shape) (n : Node) → IsFaultless wanted n → Clean wanted n
+clean_node wanted n clean = clean_by wanted n clean (fit wanted n)

@@ -1,0 +1,5 @@
+pub mod Shapes
+pub mod Faults
+pub mod Saying
+pub mod Canonical
+pub mod Laws
