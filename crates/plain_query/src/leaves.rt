@@ -12,11 +12,7 @@ use sqlite_items::Items;
 use std::alloc::{AllocError, Global};
 
 /// Whether a query holds that looks at no words and has no children. No other query does.
-pub(crate) fn leaf_holds(
-    alloc: Global,
-    query: &Query,
-    document: &Document,
-) -> Result<bool, AllocError>
+pub fn leaf_holds(alloc: Global, query: &Query, document: &Document) -> Result<bool, AllocError>
     ensures { IfOk result (λ b. b ≡ leaf_holds query.now document.now) }
 {
     match query {

@@ -67,7 +67,8 @@ fn scalar_order(found: &Scalar, wanted: &Scalar) -> Option<Ordering>
     }
 }
 
-fn order_holds(op: Compare, order: Ordering) -> bool
+/// Whether an order is what an operator asks.
+pub fn order_holds(op: Compare, order: Ordering) -> bool
     ensures { result ≡ order_holds op order }
 {
     match op {

@@ -1,0 +1,4 @@
+pub mod Found
+pub mod Values
+pub mod Windows
+pub mod Worded

@@ -1,0 +1,23 @@
+//! Whether a document satisfies a query. The words of a document are found at most once, and only where the query
+//! asks for words.
+#![tactic(auto)]
+
+mod bound;
+mod document_words;
+mod holding;
+mod leaves;
+mod matching;
+mod nearness;
+mod owners;
+mod phrases;
+mod scalar_walk;
+mod starting;
+mod text_queries;
+mod value_test;
+mod values;
+mod windows;
+mod worded_string;
+mod worded_strings;
+
+pub use matching::matches;
+pub use nearness::is_near;
