@@ -2,8 +2,8 @@ ghost use Rattle.std.specs.Prelude.{◌≡◌, IfOk};
 ghost use Rattle.doc_meaning.specs.Answers.{answer_in};
 
 use crate::LiveDocuments;
+use doc_filter::matches;
 use doc_model::{Query, Texts};
-use plain_query::matches;
 use std::alloc::{AllocError, Global};
 
 impl LiveDocuments {
