@@ -1,6 +1,8 @@
-//! Tests of words and of the plain crates, by worked documents and queries.
+//! Tests of words, of the plain crates and of the filter, by worked documents and queries.
 #![tactic(auto)]
 
+#[cfg(test)]
+mod filters;
 #[cfg(test)]
 mod fixtures;
 #[cfg(test)]
