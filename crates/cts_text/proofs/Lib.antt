@@ -1,0 +1,13 @@
+pub mod Tabled
+pub mod Fits
+pub mod Misfits
+pub mod Walk
+pub mod Looked
+pub mod Said
+pub mod Told
+pub mod Folded
+pub mod Steps
+pub mod Bounds
+pub mod Whole
+pub mod Written
+pub mod Members

@@ -1,0 +1,7 @@
+pub mod Kinds
+pub mod Tables
+pub mod Values
+pub mod Judging
+pub mod Saids
+pub mod Bad
+pub mod Answers

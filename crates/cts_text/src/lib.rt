@@ -1,0 +1,24 @@
+//! Queries as JSON text, read and written.
+#![tactic(auto)]
+
+mod bad;
+mod compare;
+mod distance;
+mod fields;
+mod fitting;
+mod judging;
+mod kinds;
+mod leaf_nodes;
+mod leaf_queries;
+mod names;
+mod node_of;
+mod objects;
+mod options;
+mod reading;
+mod saying;
+mod values;
+mod writing;
+
+pub use bad::QueryTextBad;
+pub use reading::read;
+pub use writing::write;

@@ -1,0 +1,152 @@
+// What a tree without faults says. Of one with faults some query is made.
+ghost use Rattle.std.specs.Prelude.{◌≡◌, codes, IfOk, Some};
+ghost use Rattle.cts_meaning.specs.Saying.{value_of};
+ghost use Rattle.cts_meaning.specs.declared.form.QueryForm.TheVariants as form;
+ghost use Rattle.cts_text.specs.Saids.{AreSaid, AreSaidAt, IsSaid, IsSaidAs, IsSaidAt, IsSaidBy};
+ghost use Rattle.doc_model.specs.declared.node.Node.TheVariants as node;
+
+use crate::leaf_queries::{directory, prop_value, prop_word, range, word};
+use crate::names::form_named;
+use crate::values::{distance_in, has_option, texts_in};
+use cts_meaning::QueryForm;
+use doc_model::{Members, Node, Nodes, Queries, Query};
+use sqlite_items::Boxed;
+use std::alloc::{AllocError, Global};
+
+/// The query that a tree says. It goes as deep as the tree.
+#[cycle(saying)]
+pub(crate) fn query_of(alloc: Global, node: &Node) -> Result<Query, AllocError>
+    ensures { IfOk result (λ q. IsSaid node.now q) }
+{
+    match node {
+        Node::Members(members) => query_in(alloc, members),
+        _ => Ok(Query::False),
+    }
+}
+
+/// The query of an object of one member.
+#[cycle(saying)]
+fn query_in(alloc: Global, members: &Members) -> Result<Query, AllocError>
+    ensures { IfOk result (λ q. IsSaid (node.Members members.now) q) }
+{
+    let [member] = members.as_slice() else {
+        return Ok(Query::False);
+    };
+    match form_named(member.0.as_str()) {
+        Some(form) => query_by(alloc, form, &member.1),
+        None => Ok(Query::False),
+    }
+}
+
+#[cycle(saying)]
+fn query_by(alloc: Global, form: QueryForm, argument: &Node) -> Result<Query, AllocError>
+    ensures { IfOk result (λ q. IsSaidBy form argument.now q) }
+{
+    match argument {
+        Node::Members(members) => query_as(alloc, form, members),
+        _ => Ok(Query::False),
+    }
+}
+
+#[cycle(saying)]
+fn query_as(alloc: Global, form: QueryForm, members: &Members) -> Result<Query, AllocError>
+    ensures { IfOk result (λ q. IsSaidAs form members.now q) }
+{
+    match form {
+        QueryForm::True => Ok(Query::True),
+        QueryForm::False => Ok(Query::False),
+        QueryForm::And => Ok(Query::And(queries_in(alloc, members)?)),
+        QueryForm::Or => Ok(Query::Or(queries_in(alloc, members)?)),
+        QueryForm::Not => not(alloc, members),
+        QueryForm::AndNot => and_not(alloc, members),
+        QueryForm::Word => word(alloc, members),
+        QueryForm::PropWord => prop_word(alloc, members),
+        QueryForm::PropValue => prop_value(alloc, members),
+        QueryForm::Range => range(alloc, members),
+        QueryForm::Near => near(alloc, members),
+        QueryForm::Collection => Ok(Query::Collection(texts_in(alloc, members, "uris")?)),
+        QueryForm::DocUri => Ok(Query::DocUri(texts_in(alloc, members, "uris")?)),
+        QueryForm::Directory => directory(alloc, members),
+    }
+}
+
+#[cycle(saying)]
+fn not(alloc: Global, members: &Members) -> Result<Query, AllocError>
+    ensures { IfOk result (λ q. IsSaidAs form.Not members.now q) }
+{
+    let query = child(alloc, members, "query")?;
+    Ok(Query::Not(Boxed::new(alloc, query)?))
+}
+
+#[cycle(saying)]
+fn and_not(alloc: Global, members: &Members) -> Result<Query, AllocError>
+    ensures { IfOk result (λ q. IsSaidAs form.AndNot members.now q) }
+{
+    let positive = child(alloc, members, "positiveQuery")?;
+    let negative = child(alloc, members, "negativeQuery")?;
+    Ok(Query::AndNot {
+        positive: Boxed::new(alloc, positive)?,
+        negative: Boxed::new(alloc, negative)?,
+    })
+}
+
+#[cycle(saying)]
+fn near(alloc: Global, members: &Members) -> Result<Query, AllocError>
+    ensures { IfOk result (λ q. IsSaidAs form.Near members.now q) }
+{
+    let queries = queries_in(alloc, members)?;
+    let distance = distance_in(members);
+    let ordered = has_option(members, "ordered");
+    Ok(Query::Near {
+        queries,
+        distance,
+        ordered,
+    })
+}
+
+/// The query of the member of this name.
+#[cycle(saying)]
+fn child(alloc: Global, members: &Members, name: &str) -> Result<Query, AllocError>
+    ensures { IfOk result (λ q. IsSaidAt (value_of name.now members.now) q) }
+{
+    for member in members.as_slice() {
+        if member.0.as_str() == name {
+            return query_of(alloc, &member.1);
+        }
+    }
+    Ok(Query::False)
+}
+
+/// The queries of the member that is named so.
+#[cycle(saying)]
+fn queries_in(alloc: Global, members: &Members) -> Result<Queries, AllocError>
+    ensures { IfOk result (λ queries. AreSaidAt (value_of (codes "queries") members.now) queries) }
+{
+    for member in members.as_slice() {
+        if member.0.as_str() == "queries" {
+            return queries_of(alloc, &member.1);
+        }
+    }
+    Ok(Queries::new(alloc))
+}
+
+#[cycle(saying)]
+fn queries_of(alloc: Global, node: &Node) -> Result<Queries, AllocError>
+    ensures { IfOk result (λ queries. AreSaidAt (Some node.now) queries) }
+{
+    match node {
+        Node::Items(items) => each_query(alloc, items),
+        _ => Ok(Queries::new(alloc)),
+    }
+}
+
+#[cycle(saying)]
+fn each_query(alloc: Global, items: &Nodes) -> Result<Queries, AllocError>
+    ensures { IfOk result (λ queries. AreSaid items.now queries) }
+{
+    let mut queries = Queries::new(alloc);
+    for item in items.as_slice() {
+        queries.push(query_of(alloc, item)?)?;
+    }
+    Ok(queries)
+}
