@@ -9,3 +9,5 @@ mod documents;
 mod json;
 #[cfg(test)]
 mod lines;
+#[cfg(test)]
+mod queries;
