@@ -1,0 +1,82 @@
+"""Times searches for one word in docdb, less the puts before them; searches.sh runs it."""
+
+import os
+import platform
+import subprocess
+import sys
+import tempfile
+import time
+
+PROGRAM, MOST = sys.argv[1], int(sys.argv[2])
+COUNTS = [count for count in (1_000, 10_000, 100_000) if count <= MOST]
+WORDS, SEARCHES, ROUNDS = 40, 10, 3
+
+
+def draws(seed):
+    while True:
+        seed = (seed * 1_103_515_245 + 12_345) % 2**31
+        yield seed >> 16
+
+
+def put_lines(count):
+    draw = draws(1)
+    for i in range(1, count + 1):
+        text = " ".join("word%d" % (next(draw) % 4_096) for _ in range(WORDS))
+        yield 'put /g/%d.json {"t":"%s"}\n' % (i, text)
+
+
+def search_lines():
+    for i in range(SEARCHES):
+        yield 'search {"wordQuery":{"text":["word%d"]}}\n' % (397 * (i + 1) % 4_096)
+
+
+def write(path, *parts):
+    with open(path, "w") as file:
+        for part in parts:
+            file.writelines(part)
+
+
+def seconds(command, source, target):
+    with open(source, "rb") as read, open(target, "wb") as written:
+        start = time.perf_counter()
+        status = subprocess.run(command, stdin=read, stdout=written).returncode
+        end = time.perf_counter()
+    if status != 0:
+        sys.exit("%s ended with status %d" % (command[0], status))
+    return end - start
+
+
+def best(command, source, target):
+    return min(seconds(command, source, target) for _ in range(ROUNDS))
+
+
+def found_in(path):
+    with open(path) as file:
+        return [line for line in file if line.startswith("found ")]
+
+
+def main():
+    print("%s, Python %s, best of %d" % (platform.platform(), platform.python_version(), ROUNDS))
+    print("a search: milliseconds of each of %d, and microseconds of each for one document" % SEARCHES)
+    print("ratio: of the last to that of the line above; grep: milliseconds that grep -cw takes over the puts")
+    print("%10s %10s %10s %9s %9s" % ("documents", "a search", "a document", "ratio", "grep"))
+    before = None
+    with tempfile.TemporaryDirectory() as work:
+        puts, both, target = (os.path.join(work, name) for name in ("puts", "both", "replies"))
+        for count in COUNTS:
+            write(puts, put_lines(count))
+            write(both, put_lines(count), search_lines())
+            alone = best([PROGRAM, "run", "d"], puts, target)
+            whole = best([PROGRAM, "run", "d"], both, target)
+            if len(found_in(target)) != SEARCHES:
+                sys.exit("%d searches were answered" % len(found_in(target)))
+            matched = best(["grep", "-cw", "word397", puts], puts, target)
+            each = (whole - alone) / SEARCHES
+            one = each / count
+            ratio = "%.2f" % (one / before) if before else "-"
+            row = (count, each * 1e3, one * 1e6, ratio, matched * 1e3)
+            print("%10d %10.2f %10.2f %9s %9.2f" % row, flush=True)
+            before = one
+
+
+main()
