@@ -2,21 +2,13 @@
 
 import os
 import platform
-import resource
-import subprocess
 import sys
 import tempfile
-import time
+
+from timing import ROUNDS, best, draws
 
 PROGRAM, MOST = sys.argv[1], int(sys.argv[2])
 COUNTS = [count for count in (10_000, 100_000, 1_000_000) if count <= MOST]
-ROUNDS = 3
-
-
-def draws(seed):
-    while True:
-        seed = (seed * 1_103_515_245 + 12_345) % 2**31
-        yield seed >> 16
 
 
 def write_puts(path, count):
@@ -27,27 +19,10 @@ def write_puts(path, count):
             file.write('put /g/%d/%d.json {"t":"%s"}\n' % (i % 16, i, words))
 
 
-def seconds(command, source, target):
-    """By the clock on the wall, and of the processor."""
-    used = resource.getrusage(resource.RUSAGE_CHILDREN)
-    with open(source, "rb") as read, open(target, "wb") as written:
-        start = time.perf_counter()
-        status = subprocess.run(command, stdin=read, stdout=written).returncode
-        end = time.perf_counter()
-    if status != 0:
-        sys.exit("%s ended with status %d" % (command[0], status))
-    now = resource.getrusage(resource.RUSAGE_CHILDREN)
-    return end - start, now.ru_utime - used.ru_utime + now.ru_stime - used.ru_stime
-
-
 def last_line(path):
     with open(path, "rb") as file:
         file.seek(max(0, os.path.getsize(path) - 64))
         return file.read().splitlines()[-1].decode()
-
-
-def best(command, source, target):
-    return [min(column) for column in zip(*(seconds(command, source, target) for _ in range(ROUNDS)))]
 
 
 def main():

@@ -2,20 +2,14 @@
 
 import os
 import platform
-import subprocess
 import sys
 import tempfile
-import time
+
+from timing import ROUNDS, best, draws
 
 PROGRAM, MOST = sys.argv[1], int(sys.argv[2])
 COUNTS = [count for count in (1_000, 10_000, 100_000) if count <= MOST]
-WORDS, SEARCHES, ROUNDS = 40, 10, 3
-
-
-def draws(seed):
-    while True:
-        seed = (seed * 1_103_515_245 + 12_345) % 2**31
-        yield seed >> 16
+WORDS, SEARCHES = 40, 10
 
 
 def put_lines(count):
@@ -36,20 +30,6 @@ def write(path, *parts):
             file.writelines(part)
 
 
-def seconds(command, source, target):
-    with open(source, "rb") as read, open(target, "wb") as written:
-        start = time.perf_counter()
-        status = subprocess.run(command, stdin=read, stdout=written).returncode
-        end = time.perf_counter()
-    if status != 0:
-        sys.exit("%s ended with status %d" % (command[0], status))
-    return end - start
-
-
-def best(command, source, target):
-    return min(seconds(command, source, target) for _ in range(ROUNDS))
-
-
 def found_in(path):
     with open(path) as file:
         return [line for line in file if line.startswith("found ")]
@@ -66,11 +46,11 @@ def main():
         for count in COUNTS:
             write(puts, put_lines(count))
             write(both, put_lines(count), search_lines())
-            alone = best([PROGRAM, "run", "d"], puts, target)
-            whole = best([PROGRAM, "run", "d"], both, target)
+            alone, _ = best([PROGRAM, "run", "d"], puts, target)
+            whole, _ = best([PROGRAM, "run", "d"], both, target)
             if len(found_in(target)) != SEARCHES:
                 sys.exit("%d searches were answered" % len(found_in(target)))
-            matched = best(["grep", "-cw", "word397", puts], puts, target)
+            matched, _ = best(["grep", "-cw", "word397", puts], puts, target)
             each = (whole - alone) / SEARCHES
             one = each / count
             ratio = "%.2f" % (one / before) if before else "-"

@@ -1,0 +1,31 @@
+"""What the scripts of this folder share: texts drawn by a fixed rule, and the times of a command."""
+
+import resource
+import subprocess
+import sys
+import time
+
+ROUNDS = 3
+
+
+def draws(seed):
+    while True:
+        seed = (seed * 1_103_515_245 + 12_345) % 2**31
+        yield seed >> 16
+
+
+def seconds(command, source, target):
+    """By the clock on the wall, and of the processor."""
+    used = resource.getrusage(resource.RUSAGE_CHILDREN)
+    with open(source, "rb") as read, open(target, "wb") as written:
+        start = time.perf_counter()
+        status = subprocess.run(command, stdin=read, stdout=written).returncode
+        end = time.perf_counter()
+    if status != 0:
+        sys.exit("%s ended with status %d" % (command[0], status))
+    now = resource.getrusage(resource.RUSAGE_CHILDREN)
+    return end - start, now.ru_utime - used.ru_utime + now.ru_stime - used.ru_stime
+
+
+def best(command, source, target):
+    return [min(column) for column in zip(*(seconds(command, source, target) for _ in range(ROUNDS)))]
