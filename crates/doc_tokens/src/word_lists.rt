@@ -19,14 +19,13 @@ pub fn plain_words(alloc: Global, text: &str) -> Result<Texts, AllocError>
 }
 
 /// The words of a text case folded, in order.
-#[tactic(auto, unfolding(doc_meaning::specs::Words::folded))]
 pub fn folded_words(alloc: Global, text: &str) -> Result<Texts, AllocError>
     ensures { IfOk result (λ ws. ws ≡ folded text.now) }
 {
-    let plain = plain_words(alloc, text)?;
+    let spans = words(alloc, text)?;
     let mut out = Texts::new(alloc);
-    for word in plain.as_slice() {
-        out.push(fold(alloc, word.as_str())?)?;
+    for span in &spans {
+        out.push(fold(alloc, &text[span.0..span.1])?)?;
     }
     Ok(out)
 }
