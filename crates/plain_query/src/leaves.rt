@@ -11,7 +11,7 @@ use doc_model::{Case, Compare, Document, Node, Query, Scalar, Scalars, Text, Tex
 use sqlite_items::Items;
 use std::alloc::{AllocError, Global};
 
-/// Whether a query holds that looks at no words and has no children. No other query does.
+/// Whether a query holds that starts nowhere and has no children. For every other the answer is no.
 pub fn leaf_holds(alloc: Global, query: &Query, document: &Document) -> Result<bool, AllocError>
     ensures { IfOk result (λ b. b ≡ leaf_holds query.now document.now) }
 {
