@@ -3,6 +3,8 @@ pub mod FoundLemmas
 pub mod NearLemmas
 pub mod PhraseLemmas
 pub mod QueryLemmas
+pub mod RunLemmas
+pub mod TextLemmas
 pub mod ValueLemmas
 pub mod WindowLemmas
 pub mod WordedLemmas

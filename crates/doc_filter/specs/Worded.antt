@@ -55,3 +55,8 @@ phrase_starts found wanted names = flat_map (λ w. places_in w wanted) (filter (
 -- they start somewhere there
 abbrev pub has_phrase : List WordedString → List (List ℕ) → Option (List (List ℕ)) → Bool
 has_phrase found wanted names = list_any (λ w. is_owned names w.owner && is_nonempty (places wanted w.words)) found
+
+-- they start in some of these texts, of these properties or of any
+abbrev pub some_text_has : Bool → List (List ℕ) → Option (List (List ℕ)) → List (Owner × List ℕ) → Bool
+some_text_has blind wanted names texts =
+    list_any (λ s. is_owned names s.0 && is_nonempty (places wanted (words_seen blind s.1))) texts

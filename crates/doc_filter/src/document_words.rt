@@ -1,4 +1,4 @@
-ghost use Rattle.std.specs.Prelude.{◌≡◌, ◌<◌, ◌^◌, [], IfSome, OnOk, Some, unwrap_or};
+ghost use Rattle.std.specs.Prelude.{◌≡◌, ◌<◌, ◌^◌, [], IfSome, OnOk, Some, not, true, unwrap_or};
 ghost use Rattle.doc_filter.specs.Found.{AreFound, AreOf, found_words};
 ghost use Rattle.doc_filter.specs.Worded.{worded_strings};
 ghost use Rattle.doc_model.specs.Tree.{size};
@@ -17,6 +17,8 @@ pub struct DocumentWords {
     pub plain: Option<Items<WordedString>>,
     /// By the case folded words.
     pub folded: Option<Items<WordedString>>,
+    /// Whether a text was sought before.
+    pub sought: bool,
 }
 
 impl DocumentWords {
@@ -27,7 +29,19 @@ impl DocumentWords {
         DocumentWords {
             plain: None,
             folded: None,
+            sought: false,
         }
+    }
+
+    /// Whether no text was sought before. From now on one was.
+    pub fn begins(&mut self) -> bool
+        ensures answer { result ≡ not self.old.sought }
+        ensures sought { self.new.sought ≡ true }
+        ensures kept { (root : Node) → AreOf self.old root → AreOf self.new root }
+    {
+        let first = !self.sought;
+        self.sought = true;
+        first
     }
 
     /// Finds the words in one of the two forms, unless that is done already.

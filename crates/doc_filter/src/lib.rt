@@ -1,5 +1,5 @@
-//! Whether a document satisfies a query. The words of a document are found at most once, and only where the query
-//! asks for words.
+//! Whether a document satisfies a query. The words of a document are found at most once in each of two forms, as they
+//! are written and case folded, and only where the query seeks more than one text.
 #![tactic(auto)]
 
 mod bound;
@@ -13,9 +13,11 @@ mod phrases;
 mod scalar_walk;
 mod starting;
 mod text_queries;
+mod text_walk;
 mod value_test;
 mod values;
 mod windows;
+mod word_runs;
 mod worded_string;
 mod worded_strings;
 

@@ -1,8 +1,9 @@
-ghost use Rattle.std.specs.Prelude.{◌≡◌, ◌+◌, ◌<◌, ◌^◌, ◌++◌, All, IfOk, OnOk, map};
+ghost use Rattle.std.specs.Prelude.{◌≡◌, ◌+◌, ◌<◌, ◌^◌, ◌++◌, All, OnOk, map};
 ghost use Rattle.std.specs.Option.{option_copied};
 ghost use Rattle.doc_filter.specs.Worded.{IsNumbered, has_phrase, phrase_starts, places_in};
 
 use crate::owners::is_owned;
+use crate::word_runs::stand_in;
 use crate::worded_string::WordedString;
 use doc_model::Text;
 use plain_query::places;
@@ -10,22 +11,15 @@ use sqlite_items::Items;
 use std::alloc::{AllocError, Global};
 
 /// Whether the words stand one after another in a string of these properties, or in any.
-pub fn has_phrase(
-    alloc: Global,
-    strings: &[WordedString],
-    wanted: &[Text],
-    names: Option<&[Text]>,
-) -> Result<bool, AllocError>
-    ensures { IfOk result (λ b. b ≡ has_phrase strings.now wanted.now (option_copied names.entry)) }
+pub fn has_phrase(strings: &[WordedString], wanted: &[Text], names: Option<&[Text]>) -> bool
+    ensures { result ≡ has_phrase strings.now wanted.now (option_copied names.entry) }
 {
     for string in strings {
-        if is_owned(names, string.owner.as_ref())
-            && !places(alloc, wanted, string.words.as_slice())?.is_empty()
-        {
-            return Ok(true);
+        if is_owned(names, string.owner.as_ref()) && stand_in(wanted, string.words.as_slice()) {
+            return true;
         }
     }
-    Ok(false)
+    false
 }
 
 /// Adds where the words start in the strings of these properties, or in all, as numbers of words.

@@ -6,6 +6,7 @@ ghost use Rattle.doc_meaning.specs.Strings.{starts_among, strings};
 
 use crate::document_words::DocumentWords;
 use crate::phrases::{add_phrase_starts, has_phrase};
+use crate::text_walk::some_text_has;
 use doc_model::{Case, Document, Text};
 use plain_query::{is_blind, words_seen};
 use sqlite_items::Items;
@@ -33,6 +34,8 @@ pub fn some_text_stands(
     Ok(false)
 }
 
+/// Whether one of them does. The first text is sought in the tree itself, so that a query of one text finds no words
+/// that it doesn't look at. From the second on the words of the document are found, and serve all others.
 fn text_stands(
     alloc: Global,
     text: &str,
@@ -48,8 +51,14 @@ fn text_stands(
 {
     let blind = is_blind(case, text);
     let wanted = words_seen(alloc, blind, text)?;
+    if wanted.as_slice().is_empty() {
+        return Ok(false);
+    }
+    if words.begins() {
+        return some_text_has(alloc, document.root(), blind, wanted.as_slice(), names);
+    }
     words.find(alloc, blind, document)?;
-    has_phrase(alloc, words.get(blind), wanted.as_slice(), names)
+    Ok(has_phrase(words.get(blind), wanted.as_slice(), names))
 }
 
 /// Adds where the texts start in the strings of the named properties, or in all, as numbers of words.
@@ -89,6 +98,9 @@ fn add_starts_of(
 {
     let blind = is_blind(case, text);
     let wanted = words_seen(alloc, blind, text)?;
+    if wanted.as_slice().is_empty() {
+        return Ok(());
+    }
     words.find(alloc, blind, document)?;
     add_phrase_starts(alloc, words.get(blind), wanted.as_slice(), names, out)
 }
