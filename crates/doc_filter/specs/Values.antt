@@ -10,16 +10,22 @@ use Rattle.doc_model.specs.declared.scalar.Scalar.TheVariants as scalar
 use Rattle.doc_meaning.specs.Strings.{Owner, is_owned}
 use Rattle.doc_meaning.specs.Values.{scalar_equals, in_range}
 use Rattle.doc_filter.specs.declared.value_test.ValueTest.{ValueTest}
-use Rattle.doc_filter.specs.declared.value_test.ValueTest.TheVariants.{Equal, Range}
+use Rattle.doc_filter.specs.declared.value_test.ValueTest.TheVariants.{Equal, EqualUnlessText, Range}
 use Rattle.doc_filter.specs.declared.worded_string.WordedString.{WordedString}
 
 -- by type and value, texts as strings
 abbrev pub equals : Scalar → Scalar → Bool
 equals found wanted = scalar_equals case.Auto true found wanted
 
+-- the same where the one of the query isn't a text
+abbrev pub equals_unless_text : Scalar → Scalar → Bool
+equals_unless_text found (scalar.Text wanted) = false
+equals_unless_text found wanted = equals found wanted
+
 -- a scalar of a document (left) passes against one of a query
 abbrev pub passes : ValueTest → Scalar → Scalar → Bool
 passes Equal found wanted = equals found wanted
+passes EqualUnlessText found wanted = equals_unless_text found wanted
 passes (Range op) found wanted = in_range op found wanted
 
 -- the same of a text
@@ -35,8 +41,13 @@ abbrev pub some_named : List (List ℕ) → (Scalar → Bool) → List (Owner ×
 some_named names test found = list_any (λ s. is_owned (Some names) s.0 && test s.1) found
 
 -- some scalar is a text of the same words
-abbrev pub text_stands : Case → List Scalar → List ℕ → Bool
-text_stands case found text = has_value (scalar_equals case false) found (scalar.Text text)
+abbrev pub has_equal_text : Case → List Scalar → List ℕ → Bool
+has_equal_text case found text = has_value (scalar_equals case false) found (scalar.Text text)
+
+-- the value is a text, and some scalar is a text of the same words
+abbrev pub words_stand : Case → List Scalar → Scalar → Bool
+words_stand case found (scalar.Text text) = has_equal_text case found text
+words_stand case found _ = false
 
 -- some string of the named properties has these words and no others
 abbrev pub has_words : List (List ℕ) → List (List ℕ) → List WordedString → Bool

@@ -1,9 +1,9 @@
-ghost use Rattle.std.specs.Prelude.{◌≡◌, ◌&&◌, IfOk, OnOk, Some};
+ghost use Rattle.std.specs.Prelude.{◌≡◌, ◌&&◌, IfOk, OnOk, Some, false};
 ghost use Rattle.std.specs.List.{list_any};
 ghost use Rattle.std.specs.Cmp.Lexicographic.{pointwise};
 ghost use Rattle.std.specs.Str.{bytes_eq};
 ghost use Rattle.doc_filter.specs.Found.{AreOf};
-ghost use Rattle.doc_filter.specs.Values.{has_value, has_words, passes, text_stands};
+ghost use Rattle.doc_filter.specs.Values.{has_words, has_equal_text, words_stand};
 ghost use Rattle.doc_meaning.specs.Meaning.{some_pair};
 ghost use Rattle.doc_meaning.specs.Strings.{scalars_of, is_owned};
 ghost use Rattle.doc_meaning.specs.Values.{scalar_equals, in_range};
@@ -21,15 +21,7 @@ use std::alloc::{AllocError, Global};
 pub fn some_in_range(root: &Node, names: &[Text], op: Compare, values: &[Scalar]) -> bool
     ensures { result ≡ some_pair (in_range op) (scalars_of names.now root.now) values.now }
 {
-    has_any_scalar(root, names, ValueTest::Range(op), values)
-}
-
-fn has_any_scalar(root: &Node, names: &[Text], test: ValueTest, values: &[Scalar]) -> bool
-    ensures { result ≡ list_any (has_value (passes test) (scalars_of names.now root.now)) values.now }
-{
-    values
-        .iter()
-        .any(|value| has_scalar(root, names, test, value))
+    has_scalar(root, names, ValueTest::Range(op), values)
 }
 
 /// Whether some scalar of the named properties equals some of the values.
@@ -47,40 +39,76 @@ pub fn some_value_stands(
         IfOk result (λ b. b ≡ some_pair (scalar_equals case exact) found values.now) }
     ensures kept { OnOk result (AreOf words.new document.now.root) }
 {
+    if exact {
+        Ok(has_scalar(document.root(), names, ValueTest::Equal, values))
+    } else {
+        some_alike(alloc, names, values, case, document, words)
+    }
+}
+
+/// The same where texts are compared word by word. Only texts among the values look for words.
+fn some_alike(
+    alloc: Global,
+    names: &[Text],
+    values: &[Scalar],
+    case: Case,
+    document: &Document,
+    words: &mut DocumentWords,
+) -> Result<bool, AllocError>
+    requires { AreOf words.old document.now.root }
+    ensures answer { let found = scalars_of names.now document.now.root in
+        IfOk result (λ b. b ≡ some_pair (scalar_equals case false) found values.now) }
+    ensures kept { OnOk result (AreOf words.new document.now.root) }
+{
+    if has_scalar(document.root(), names, ValueTest::EqualUnlessText, values) {
+        return Ok(true);
+    }
+    some_words_stand(alloc, names, values, case, document, words)
+}
+
+/// Whether some text of the named properties has the words of some text among the values, and no others.
+fn some_words_stand(
+    alloc: Global,
+    names: &[Text],
+    values: &[Scalar],
+    case: Case,
+    document: &Document,
+    words: &mut DocumentWords,
+) -> Result<bool, AllocError>
+    requires { AreOf words.old document.now.root }
+    ensures answer { let found = scalars_of names.now document.now.root in
+        IfOk result (λ b. b ≡ list_any (words_stand case found) values.now) }
+    ensures kept { OnOk result (AreOf words.new document.now.root) }
+{
     for value in values {
-        if value_stands(alloc, names, value, case, exact, document, words)? {
+        if words_stand(alloc, names, value, case, document, words)? {
             return Ok(true);
         }
     }
     Ok(false)
 }
 
-/// Whether some scalar of the named properties equals a value. Only a text that isn't compared as a string looks for
-/// words.
-fn value_stands(
+fn words_stand(
     alloc: Global,
     names: &[Text],
     value: &Scalar,
     case: Case,
-    exact: bool,
     document: &Document,
     words: &mut DocumentWords,
 ) -> Result<bool, AllocError>
     requires { AreOf words.old document.now.root }
     ensures answer { let found = scalars_of names.now document.now.root in
-        IfOk result (λ b. b ≡ has_value (scalar_equals case exact) found value.now) }
+        IfOk result (λ b. b ≡ words_stand case found value.now) }
     ensures kept { OnOk result (AreOf words.new document.now.root) }
 {
     match value {
-        Scalar::Text(text) if !exact => {
-            text_stands(alloc, names, text.as_str(), case, document, words)
-        }
-        _ => Ok(has_scalar(document.root(), names, ValueTest::Equal, value)),
+        Scalar::Text(text) => has_equal_text(alloc, names, text.as_str(), case, document, words),
+        _ => Ok(false),
     }
 }
 
 /// Whether some text of the named properties has these words and no others.
-fn text_stands(
+fn has_equal_text(
     alloc: Global,
     names: &[Text],
     text: &str,
@@ -90,7 +118,7 @@ fn text_stands(
 ) -> Result<bool, AllocError>
     requires { AreOf words.old document.now.root }
     ensures answer { let found = scalars_of names.now document.now.root in
-        IfOk result (λ b. b ≡ text_stands case found text.now) }
+        IfOk result (λ b. b ≡ has_equal_text case found text.now) }
     ensures kept { OnOk result (AreOf words.new document.now.root) }
 {
     let blind = is_blind(case, text);
@@ -106,7 +134,8 @@ fn has_words(strings: &[WordedString], names: &[Text], wanted: &[Text]) -> bool
 }
 
 fn is_value(string: &WordedString, names: &[Text], wanted: &[Text]) -> bool
-    ensures { result ≡ (is_owned (Some names.now) string.now.owner && pointwise bytes_eq string.now.words wanted.now) }
+    ensures { let owned = is_owned (Some names.now) string.now.owner in
+        result ≡ (owned && pointwise bytes_eq string.now.words wanted.now) }
 {
-    is_owned(Some(names), string.owner.as_ref()) && string.words.as_slice() == wanted
+    string.words.as_slice() == wanted && is_owned(Some(names), string.owner.as_ref())
 }

@@ -7,10 +7,10 @@ use Rattle.doc_filter.proofs.scalar_walk.+scalars.Given as goal
 
 abbrev pub invariant-some_item_passes-loop-item : goal.invariant-some_item_passes-loop-item
 invariant-some_item_passes-loop-item l =
-    let passes_in = some_named l.names (λ v. passes l.test v l.wanted) in
+    let passes_in = some_named l.names (λ v. list_any (passes l.test v) l.wanted) in
     list_any (λ item. passes_in (scalars_under item (option_copied l.fn.owner))) (take l.item-index l.items) ≡ false
 
 abbrev pub invariant-some_member_passes-loop-member : goal.invariant-some_member_passes-loop-member
 invariant-some_member_passes-loop-member l =
-    let passes_in = some_named l.names (λ v. passes l.test v l.wanted) in
+    let passes_in = some_named l.names (λ v. list_any (passes l.test v) l.wanted) in
     list_any (λ member. passes_in (scalars_under member.1 (Some member.0))) (take l.member-index l.members) ≡ false

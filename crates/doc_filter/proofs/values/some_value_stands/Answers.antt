@@ -1,24 +1,17 @@
-use Rattle.std.proofs.Common.{sym, ◌∙◌}
+use Rattle.std.proofs.Common.{ap, sym, ◌∙◌}
+use Rattle.doc_meaning.specs.Meaning.{some_pair}
 use Rattle.doc_meaning.specs.Strings.{scalars_of}
 use Rattle.doc_meaning.specs.Values.{scalar_equals}
-use Rattle.doc_filter.specs.Values.{has_value}
-use Rattle.doc_filter.proofs.BoolLemmas.{passes_here, passes_nowhere}
-use Rattle.doc_filter.proofs.ValueLemmas.{pair_swapped}
+use Rattle.doc_filter.specs.Values.{equals}
+use Rattle.doc_filter.proofs.ValueLemmas.{exact_pair}
 use Rattle.doc_filter.proofs.values.some_value_stands.Goals as goal
 
-pub returns-then-branch-clause-answer : goal.returns-then-branch-clause-answer
-returns-then-branch-clause-answer c =
-    let test = scalar_equals c.args.case c.args.exact in
-    let found = scalars_of c.args.names.now c.args.document.now.root in
-    passes_here (has_value test found) c.args.values.now c.loop-value.value-index c.value-item.result
-    c.in_ok-value_stands.field-0 c.loop-value-test.true c.value-item.is c.in_ok-value_stands.ensures.answer
-    c.if-branch.true
-    ∙ sym (pair_swapped test found c.args.values.now)
-
-pub returns-clause-answer : goal.returns-clause-answer
-returns-clause-answer c =
-    let test = scalar_equals c.args.case c.args.exact in
-    let found = scalars_of c.args.names.now c.args.document.now.root in
-    passes_nowhere (has_value test found) c.args.values.now c.loop-value.value-index c.loop-value-test.false
-    c.loop-value.invariant.none
-    ∙ sym (pair_swapped test found c.args.values.now)
+pub returns-then-exact-clause-answer : goal.returns-then-exact-clause-answer
+returns-then-exact-clause-answer c =
+    let names = c.args.names.now in
+    let values = c.args.values.now in
+    let found = scalars_of names c.args.document.now.root in
+    c.has_scalar.ensures
+    ∙ ap (λ root. some_pair equals (scalars_of names root) values) c.root.ensures.value
+    ∙ sym (exact_pair c.args.case found values)
+    ∙ ap (λ exact. some_pair (scalar_equals c.args.case exact) found values) (sym c.if-exact.true)

@@ -1,14 +1,13 @@
 use Rattle.std.proofs.Common.{◌≡◌, false, take}
 use Rattle.std.specs.List.{list_any}
 use Rattle.doc_filter.specs.Found.{AreOf}
-use Rattle.doc_filter.specs.Values.{has_value}
+use Rattle.doc_filter.specs.Values.{words_stand}
 use Rattle.doc_meaning.specs.Strings.{scalars_of}
-use Rattle.doc_meaning.specs.Values.{scalar_equals}
-use Rattle.doc_filter.proofs.values.some_value_stands.Given as goal
+use Rattle.doc_filter.proofs.values.some_words_stand.Given as goal
 
 abbrev pub invariant-loop-value : goal.invariant-loop-value
 invariant-loop-value l =
-    let stands = has_value (scalar_equals l.case l.exact) (scalars_of l.names l.document.root) in
+    let stands = words_stand l.case (scalars_of l.names l.document.root) in
     record {
       none : list_any stands (take l.value-index l.values) ≡ false;
       kept : AreOf l.words l.document.root;

@@ -2,8 +2,8 @@ use Rattle.std.proofs.Common.{◌∙◌}
 use Rattle.doc_filter.specs.Found.{found_words}
 use Rattle.doc_filter.specs.Values.{has_words}
 use Rattle.doc_filter.proofs.FoundLemmas.{sought}
-use Rattle.doc_filter.proofs.ValueLemmas.{text_stands_by_words}
-use Rattle.doc_filter.proofs.values.text_stands.Goals as goal
+use Rattle.doc_filter.proofs.ValueLemmas.{equal_text_by_words}
+use Rattle.doc_filter.proofs.values.has_equal_text.Goals as goal
 
 pub returns-clause-answer : goal.returns-clause-answer
 returns-clause-answer c =
@@ -16,4 +16,4 @@ returns-clause-answer c =
     ∙ sought (λ found wanted. has_words names wanted found) root case text blind
     (found_words blind c.find.new.self) c.get.result.now c.as_slice.result.now c.is_blind-blind.ensures
     c.in_ok-find.ensures.found c.get.ensures (c.as_slice.ensures ∙ c.in_ok-wanted.ensures)
-    ∙ text_stands_by_words case names text root
+    ∙ equal_text_by_words case names text root
