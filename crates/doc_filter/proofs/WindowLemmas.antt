@@ -1,10 +1,10 @@
 -- The least end of a choice: by the first list and those behind it.
-use Rattle.std.proofs.Common.{◌≡◌, ℕ, ◌+◌, ◌-◌, ◌<◌, ◌≤◌, max, Bool, true, false, ltb, ltb-true, lt-ltb}
-use Rattle.std.proofs.Common.{List, [], ◌∷◌, length, get_or, drop, take, All, Contains, Some, None, slice_get}
+use Rattle.std.proofs.Common.{◌≡◌, ℕ, ◌+◌, ◌<◌, ◌≤◌, max, Bool, true, false, ltb, ltb-true, lt-ltb}
+use Rattle.std.proofs.Common.{List, [], ◌∷◌, length, get_or, All, Contains, Some, None, slice_get}
 use Rattle.std.proofs.Common.{refl, sym, ap, ◌∙◌, subst, arith}
 use Rattle.std.proofs.Common.{inl, inr, ltb-false}
 use Rattle.std.proofs.lemmas.Bool.{and_from, and_parts, cases_lt, false≢true}
-use Rattle.std.proofs.lemmas.List.{get_or_default, take_all}
+use Rattle.std.proofs.lemmas.List.{get_or_default}
 use Rattle.std.proofs.lemmas.Option.{slice_get-get_or, slice_get_past}
 use Rattle.std.proofs.lemmas.List.Elements.{All-nil, All-cons, All-head, All-tail, All-weaker}
 use Rattle.std.specs.List.Sorted.{IsNonDecreasing, IsPartitionPoint}
@@ -72,14 +72,14 @@ with_first false low next ns children chosen in_first le choice = record {
 }
 
 -- no number of the first list
-pub none_in_first : (ordered : Bool) (low : ℕ) (ns : List ℕ) (children : List (List ℕ)) →
+none_in_first : (ordered : Bool) (low : ℕ) (ns : List ℕ) (children : List (List ℕ)) →
     ((n : ℕ) → Contains ns n → low ≤ n → ⊥) → FindsEnd ordered low (ns ∷ children) None
 none_in_first ordered low ns children none [] choice = choice.one_each
 none_in_first ordered low ns children none (n ∷ chosen) choice =
     none n choice.one_each.0 (All-head (λ m. low ≤ m) n chosen choice.from)
 
 -- no choice of the lists behind the least number of the first
-pub none_behind : (ordered : Bool) (low next : ℕ) (ns : List ℕ) (children : List (List ℕ)) →
+none_behind : (ordered : Bool) (low next : ℕ) (ns : List ℕ) (children : List (List ℕ)) →
     FindsNext ns low (Some next) → FindsEnd ordered (floor_behind ordered low next) children None →
     FindsEnd ordered low (ns ∷ children) None
 none_behind ordered low next ns children first none [] choice = choice.one_each
@@ -88,7 +88,7 @@ none_behind ordered low next ns children first none (n ∷ chosen) choice =
     none chosen (behind_first ordered low next n ns children chosen choice le)
 
 -- the least end behind the least number of the first list
-pub end_behind : (ordered : Bool) (low next end : ℕ) (ns : List ℕ) (children : List (List ℕ)) →
+end_behind : (ordered : Bool) (low next end : ℕ) (ns : List ℕ) (children : List (List ℕ)) →
     FindsNext ns low (Some next) → IsLeastEnd ordered (floor_behind ordered low next) children end →
     FindsEnd ordered low (ns ∷ children) (Some (max end next))
 end_behind ordered low next end ns children first behind = record {
@@ -109,21 +109,37 @@ end_behind ordered low next end ns children first behind = record {
         (behind_first ordered low next n ns children other choice le) (All-tail (λ m. m ≤ bound) n other within) in
         omega (arith, le, here, there)
 
--- the lists behind the first one
-abbrev pub others : List (List ℕ) → List (List ℕ)
-others children = take (length children - 1) (drop 1 children)
+-- what the rest of the lists gives from a floor on is, with the end so far, what all of them give
+pub record Leads (ordered : Bool) (low : ℕ) (children : List (List ℕ)) (from end : ℕ) (rest : List (List ℕ)) : Type 0 where
+  pub none : FindsEnd ordered from rest None → FindsEnd ordered low children None
+  pub some : (e : ℕ) → IsLeastEnd ordered from rest e → IsLeastEnd ordered low children (max e end)
 
-pub first_and_others : (children : List (List ℕ)) (child : List ℕ) → 1 ≤ length children →
-    child ≡ get_or children 0 child → children ≡ child ∷ others children
-first_and_others [] child one is = absurd (omega arith)
-first_and_others (m ∷ rest) child one is =
-    ap (λ x. x ∷ rest) (sym is)
-    ∙ ap (λ xs. child ∷ xs) (sym (take_all (length (m ∷ rest) - 1) rest (omega arith)))
+module _ (ordered : Bool) (low : ℕ) (children : List (List ℕ)) where
+  pub leads_first : Leads ordered low children low 0 children
+  leads_first = record {
+    none = λ none. none;
+    some = λ e is. let same : e ≡ max e 0 = omega arith in subst (IsLeastEnd ordered low children) same is;
+  }
 
-pub end_of_empty : (ordered : Bool) (low : ℕ) (children : List (List ℕ)) → length children < 1 →
-    FindsEnd ordered low children (Some 0)
-end_of_empty ordered low [] short = end_of_none ordered low
-end_of_empty ordered low (m ∷ rest) short = absurd (omega arith)
+  pub leads_on : (from end next : ℕ) (ns : List ℕ) (rest : List (List ℕ)) → FindsNext ns from (Some next) →
+      Leads ordered low children from end (ns ∷ rest) →
+      Leads ordered low children (floor_behind ordered from next) (max end next) rest
+  leads_on from end next ns rest first leads = record {
+    none = λ none. leads.none (none_behind ordered from next ns rest first none);
+    some = λ e is. let same : max (max e next) end ≡ max e (max end next) = omega arith in
+        subst (IsLeastEnd ordered low children) same
+        (leads.some (max e next) (end_behind ordered from next e ns rest first is));
+  }
+
+  pub leads_nowhere : (from end : ℕ) (ns : List ℕ) (rest : List (List ℕ)) → FindsNext ns from None →
+      Leads ordered low children from end (ns ∷ rest) → FindsEnd ordered low children None
+  leads_nowhere from end ns rest none leads = leads.none (none_in_first ordered from ns rest none)
+
+  pub leads_to : (from end : ℕ) → Leads ordered low children from end [] →
+      FindsEnd ordered low children (Some end)
+  leads_to from end leads =
+      let same : max 0 end ≡ end = omega arith in
+      subst (IsLeastEnd ordered low children) same (leads.some 0 (end_of_none ordered from))
 
 -- the place of the least number that isn't below the floor
 module _ (numbers : List ℕ) (low at : ℕ) (order : IsNonDecreasing numbers)

@@ -17,16 +17,20 @@ fn next_in(numbers: &[u64], bound: Bound) -> Option<u64>
 
 /// The least number at which a choice can end that takes one number of each sorted list, in their order if `ordered`,
 /// and none that the bound excludes.
-fn least_end(children: &[Items<u64>], bound: Bound, ordered: bool) -> Option<u64>
+///
+/// It takes the least number of each list that may follow the ones before.
+fn least_end(children: &[Items<u64>], from: Bound, ordered: bool) -> Option<u64>
     requires { All IsNonDecreasing children.now }
-    ensures { FindsEnd ordered (floor bound) children.now result }
+    ensures { FindsEnd ordered (floor from) children.now result }
 {
-    let [child, rest @ ..] = children else {
-        return Some(0);
-    };
-    let next = next_in(child.as_slice(), bound)?;
-    let end = least_end(rest, bound.behind(ordered, next), ordered)?;
-    Some(end.max(next))
+    let mut bound = from;
+    let mut end: u64 = 0;
+    for child in children {
+        let next = next_in(child.as_slice(), bound)?;
+        bound = bound.behind(ordered, next);
+        end = end.max(next);
+    }
+    Some(end)
 }
 
 /// Whether one number of each sorted list can be chosen so that no two are further apart than the distance, and they
@@ -34,7 +38,7 @@ fn least_end(children: &[Items<u64>], bound: Bound, ordered: bool) -> Option<u64
 ///
 /// It leaps: from a number on, the least end of a choice lies within the distance, or no choice that will do has a
 /// number further below that end than the distance.
-pub fn has_window(children: &[Items<u64>], distance: u32, ordered: bool) -> bool
+pub fn is_near_sorted(children: &[Items<u64>], distance: u32, ordered: bool) -> bool
     requires { All IsNonDecreasing children.now }
     ensures { result ≡ is_near distance ordered children.now }
 {

@@ -1,6 +1,6 @@
 use Rattle.std.proofs.Common.{◌≤◌, ◌-◌, arith}
 use Rattle.doc_filter.proofs.NearLemmas.{leap, near_nowhere, near_there}
-use Rattle.doc_filter.proofs.windows.has_window.Goals as goal
+use Rattle.doc_filter.proofs.windows.is_near_sorted.Goals as goal
 
 pub returns-then-saturating_sub-reach : goal.returns-then-saturating_sub-reach
 returns-then-saturating_sub-reach c =
