@@ -1,6 +1,7 @@
 -- Near by leaps, and over lists in another order.
-use Rattle.std.proofs.Common.{◌≡◌, ℕ, ◌+◌, ◌-◌, ◌≤◌, Bool, true, false, List, [], ◌∷◌, get_or, All, None, sym}
-use Rattle.std.proofs.Common.{arith}
+use Rattle.std.proofs.Common.{◌≡◌, ℕ, ◌+◌, ◌-◌, ◌<◌, ◌≤◌, Bool, true, false, List, [], ◌∷◌, get_or, All, None, sym}
+use Rattle.std.proofs.Common.{ap, ◌∙◌, subst, length, map, arith}
+use Rattle.std.proofs.lemmas.List.{get_or-map, length-map}
 use Rattle.std.proofs.lemmas.List.Elements.{All-nil, All-cons}
 use Rattle.std.proofs.lemmas.List.Sorted.{Contains-permutation, IsPermutation-sym}
 use Rattle.std.specs.List.{AllZip}
@@ -43,6 +44,29 @@ module _ (distance : ℕ) (ordered : Bool) (children : List (List ℕ)) where
       let within : All (λ m. m ≤ n + distance) near.chosen = λ j e in_j. near.close j e in_j k d in_k in
       let le = least.least near.chosen (n + distance) (choice_of low near (none_below near)) within in
       omega (arith, le)
+
+-- no choice has a number of a list without any
+chosen_somewhere : (chosen : List ℕ) (children : List (List ℕ)) → ChoosesOne chosen children →
+    All (λ ns. ns ≡ [] → ⊥) children
+chosen_somewhere [] [] one = All-nil (λ ns. ns ≡ [] → ⊥)
+chosen_somewhere [] (ns ∷ children) one = absurd one
+chosen_somewhere (n ∷ chosen) [] one = absurd one
+chosen_somewhere (n ∷ chosen) (ns ∷ children) one =
+    All-cons (λ ns. ns ≡ [] → ⊥) ns children
+    (λ is. let lt = subst (λ xs. one.0.0 < length xs) is one.0.1 in omega (arith, lt))
+    (chosen_somewhere chosen children one.1)
+
+-- a child without starts is near nothing
+pub near_without : {A : Type 0} (distance : ℕ) (ordered : Bool) (starts : A → List ℕ) (children items : List A) (i : ℕ)
+    (child : A) → items ≡ children → i < length items → child ≡ get_or items i child → starts child ≡ [] →
+    false ≡ is_near distance ordered (map starts children)
+near_without {A} distance ordered starts children items i child same lt is none = is_false _
+    (λ near_is. let near = near_of distance ordered (map starts children) near_is in
+    let here = subst (λ (xs : List A). i < length xs) same lt in
+    let child_is = subst (λ (xs : List A). child ≡ get_or xs i child) same is in
+    let within = subst (λ n. i < n) (sym (length-map children starts)) here in
+    chosen_somewhere near.chosen (map starts children) near.one_each i [] within
+    (get_or-map starts children i child [] here ∙ ap starts (sym child_is) ∙ none))
 
 abbrev pub AreSorted : List (List ℕ) → List (List ℕ) → Type 0
 AreSorted = AllZip IsSortedCopy

@@ -10,7 +10,7 @@ use doc_model::{Document, Queries, Query};
 use sqlite_items::Items;
 use std::alloc::{AllocError, Global};
 
-/// Whether the children of near start close to each other.
+/// Whether the children of near start close to each other. It stops at the first child that starts nowhere.
 pub fn near_holds(
     alloc: Global,
     queries: &Queries,
@@ -28,6 +28,9 @@ pub fn near_holds(
     for query in queries.as_slice() {
         let mut starts = Items::new(alloc);
         add_starts(alloc, query, document, words, &mut starts)?;
+        if starts.is_empty() {
+            return Ok(false);
+        }
         children.push(starts)?;
     }
     is_near(alloc, distance, ordered, children.as_slice())
