@@ -7,7 +7,7 @@ use crate::values::{some_in_range, some_value_stands};
 use doc_model::{Document, Query};
 use std::alloc::{AllocError, Global};
 
-/// Whether a query holds that looks for no words and has no children. No other query does.
+/// Whether a query holds that starts nowhere and has no children. For every other the answer is no.
 pub fn leaf_holds(
     alloc: Global,
     query: &Query,

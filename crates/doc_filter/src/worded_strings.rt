@@ -13,7 +13,7 @@ use std::alloc::{AllocError, Global};
 
 /// The text values of a tree in document order, each by its words, case folded or as they are written.
 ///
-/// It copies each word and each owner once.
+/// It copies each word once, or folds it once, and each owner once for each of its texts.
 #[tactic(auto, using(plain_query::proofs::FitLemmas::texts_fit))]
 pub fn worded_strings(
     alloc: Global,
