@@ -33,7 +33,7 @@ fn no_child_and_one_are_near(rt: HostRuntime) -> Result<(), Fail> {
 }
 
 #[test]
-fn the_distance_counts_words_between(rt: HostRuntime) -> Result<(), Fail> {
+fn the_distance_is_between_starts(rt: HostRuntime) -> Result<(), Fail> {
     assert!(rt; are_near(rt.alloc(), &[&[0], &[1]], 1, false)?);
     assert!(rt; !are_near(rt.alloc(), &[&[0], &[1]], 0, false)?);
     Ok(())
@@ -70,6 +70,7 @@ fn in_order_the_later_start_does_not_serve(rt: HostRuntime) -> Result<(), Fail> 
 #[test]
 fn each_child_has_two_starts(rt: HostRuntime) -> Result<(), Fail> {
     assert!(rt; are_near(rt.alloc(), &[&[1, 4], &[2, 6], &[3, 7]], 2, true)?);
+    assert!(rt; !are_near(rt.alloc(), &[&[1, 4], &[2, 6], &[3, 7]], 1, true)?);
     Ok(())
 }
 
@@ -103,5 +104,24 @@ fn starts_stand_in_any_order_and_twice(rt: HostRuntime) -> Result<(), Fail> {
 fn the_greatest_number_has_none_behind_it(rt: HostRuntime) -> Result<(), Fail> {
     assert!(rt; are_near(rt.alloc(), &[&[u64::MAX], &[u64::MAX]], 0, false)?);
     assert!(rt; !are_near(rt.alloc(), &[&[u64::MAX], &[u64::MAX]], 0, true)?);
+    Ok(())
+}
+
+/// Of each child the starts 0 and as many thousands as children are before it.
+fn thousands(alloc: Global, count: u32) -> Result<Items<Items<u64>>, AllocError> {
+    let mut out = Items::new(alloc);
+    for i in 0..count {
+        let starts = [0, 1_000 * u64::from(i)];
+        out.push(Items::from_slice(alloc, &starts)?)?;
+    }
+    Ok(out)
+}
+
+/// 64 children of two starts have 2^64 choices.
+#[test]
+fn choices_are_not_gone_through(rt: HostRuntime) -> Result<(), Fail> {
+    let lists = thousands(rt.alloc(), 64)?;
+    assert!(rt; !doc_filter::is_near(rt.alloc(), 9, true, lists.as_slice())?);
+    assert!(rt; doc_filter::is_near(rt.alloc(), 0, false, lists.as_slice())?);
     Ok(())
 }

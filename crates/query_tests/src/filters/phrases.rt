@@ -28,13 +28,32 @@ fn a_phrase_stands_in_one_string(rt: HostRuntime) -> Result<(), Fail> {
     Ok(())
 }
 
-/// Whether the documents of these URIs are found by a text in a property.
-fn finds_in(alloc: Global, name: &str, text: &str, wanted: &[&str]) -> Result<bool, Fail> {
-    let query = Query::PropWord {
+/// Whether the documents of these URIs are found by some of the texts.
+fn finds_some(alloc: Global, list: &[&str], wanted: &[&str]) -> Result<bool, Fail> {
+    let texts = texts(alloc, list)?;
+    let case = Case::Auto;
+    finds(alloc, &Query::Word { texts, case }, wanted)
+}
+
+#[test]
+fn one_of_several_texts_is_enough(rt: HostRuntime) -> Result<(), Fail> {
+    assert!(rt; finds_some(rt.alloc(), &["none", "!", "Red"], &["/d/e/b"])?);
+    assert!(rt; finds_some(rt.alloc(), &["the", "none", "Fox"], &["/d/a", "/d/e/b"])?);
+    assert!(rt; finds_some(rt.alloc(), &["none", "nor"], &[])?);
+    Ok(())
+}
+
+fn in_property(alloc: Global, name: &str, text: &str) -> Result<Query, AllocError> {
+    Ok(Query::PropWord {
         names: texts(alloc, &[name])?,
         texts: texts(alloc, &[text])?,
         case: Case::Auto,
-    };
+    })
+}
+
+/// Whether the documents of these URIs are found by a text in a property.
+fn finds_in(alloc: Global, name: &str, text: &str, wanted: &[&str]) -> Result<bool, Fail> {
+    let query = in_property(alloc, name, text)?;
     finds(alloc, &query, wanted)
 }
 
@@ -114,5 +133,36 @@ fn stands_before_b(alloc: Global, t: &str, u: &str) -> Result<bool, Fail> {
 fn or_starts_where_its_children_do(rt: HostRuntime) -> Result<(), Fail> {
     assert!(rt; stands_before_b(rt.alloc(), "c a b d", "b c")?);
     assert!(rt; !stands_before_b(rt.alloc(), "c a b", "d")?);
+    Ok(())
+}
+
+/// A query, and `fox` behind it.
+fn before_fox(alloc: Global, query: Query) -> Result<Query, AllocError> {
+    let mut queries = Items::new(alloc);
+    queries.push(query)?;
+    queries.push(word(alloc, "fox")?)?;
+    Ok(near(queries, 9, true))
+}
+
+/// Whether `red` stands before `fox` in a document, and that in this property.
+fn red_before_fox(alloc: Global, name: &str, d: &Document) -> Result<bool, Fail> {
+    let red = in_property(alloc, name, "red")?;
+    let query = before_fox(alloc, red)?;
+    satisfies(alloc, &query, d)
+}
+
+#[test]
+fn near_keeps_to_a_property(rt: HostRuntime) -> Result<(), Fail> {
+    let d = two_texts(rt.alloc(), "red fox", "red")?;
+    assert!(rt; red_before_fox(rt.alloc(), "t", &d)?);
+    assert!(rt; !red_before_fox(rt.alloc(), "u", &d)?);
+    Ok(())
+}
+
+#[test]
+fn what_starts_nowhere_is_near_nothing(rt: HostRuntime) -> Result<(), Fail> {
+    let d = two_texts(rt.alloc(), "red fox", "")?;
+    let query = before_fox(rt.alloc(), Query::True)?;
+    assert!(rt; !satisfies(rt.alloc(), &query, &d)?);
     Ok(())
 }

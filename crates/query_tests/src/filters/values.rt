@@ -1,6 +1,6 @@
-use super::finds;
+use super::{finds, pair, place, satisfies};
 use crate::fixtures::texts;
-use doc_model::{Case, Compare, Dec, Query, Scalar, Scalars, Text};
+use doc_model::{Case, Compare, Dec, Node, Query, Scalar, Scalars, Text};
 use sqlite_items::Items;
 use std::alloc::{AllocError, Global};
 use std::test::Fail;
@@ -11,14 +11,20 @@ fn one(alloc: Global, value: Scalar) -> Result<Scalars, AllocError> {
     Ok(values)
 }
 
-/// Whether the documents of these URIs are found by a value of `t` or `u`.
-fn finds_value(alloc: Global, value: Scalar, exact: bool, wanted: &[&str]) -> Result<bool, Fail> {
-    let query = Query::PropValue {
+/// One of the values stands at `t` or `u`.
+fn stands(alloc: Global, values: Scalars, exact: bool) -> Result<Query, AllocError> {
+    Ok(Query::PropValue {
         names: texts(alloc, &["t", "u"])?,
-        values: one(alloc, value)?,
+        values,
         case: Case::Auto,
         exact,
-    };
+    })
+}
+
+/// Whether the documents of these URIs are found by a value of `t` or `u`.
+fn finds_value(alloc: Global, value: Scalar, exact: bool, wanted: &[&str]) -> Result<bool, Fail> {
+    let values = one(alloc, value)?;
+    let query = stands(alloc, values, exact)?;
     finds(alloc, &query, wanted)
 }
 
@@ -63,6 +69,7 @@ fn other_values_equal_by_type_and_value(rt: HostRuntime) -> Result<(), Fail> {
     assert!(rt; finds_number(rt.alloc(), 8, &[])?);
     assert!(rt; finds_value(rt.alloc(), Scalar::Null, false, &["/c"])?);
     assert!(rt; finds_value(rt.alloc(), Scalar::Bool(false), true, &[])?);
+    assert!(rt; finds_value(rt.alloc(), Scalar::Bool(true), false, &["/c"])?);
     Ok(())
 }
 
@@ -101,5 +108,66 @@ fn texts_are_ordered_by_their_bytes(rt: HostRuntime) -> Result<(), Fail> {
     assert!(rt; finds_texts(rt.alloc(), Compare::Gt, "a", &["/d/a"])?);
     assert!(rt; finds_texts(rt.alloc(), Compare::Le, "Red", &["/d/e/b"])?);
     assert!(rt; finds_texts(rt.alloc(), Compare::Eq, "the red", &[])?);
+    Ok(())
+}
+
+/// False, 7 and three texts.
+fn several(alloc: Global) -> Result<Scalars, Fail> {
+    let mut values = Items::new(alloc);
+    values.push(Scalar::Bool(false))?;
+    values.push(number(7)?)?;
+    values.push(text(alloc, "none")?)?;
+    values.push(text(alloc, "Ran")?)?;
+    values.push(text(alloc, "red")?)?;
+    Ok(values)
+}
+
+#[test]
+fn one_of_several_values_is_enough(rt: HostRuntime) -> Result<(), Fail> {
+    let query = stands(rt.alloc(), several(rt.alloc())?, false)?;
+    assert!(rt; finds(rt.alloc(), &query, &["/d/e/b", "/c"])?);
+    let query = stands(rt.alloc(), several(rt.alloc())?, true)?;
+    assert!(rt; finds(rt.alloc(), &query, &["/c"])?);
+    Ok(())
+}
+
+/// Whether a document with this text at `t` is found by another one.
+fn equals(alloc: Global, found: &str, wanted: &str, exact: bool) -> Result<bool, Fail> {
+    let root = pair(alloc, found, "a")?;
+    let document = place(alloc, "/x", &[], root)?;
+    let values = one(alloc, text(alloc, wanted)?)?;
+    let query = stands(alloc, values, exact)?;
+    satisfies(alloc, &query, &document)
+}
+
+#[test]
+fn texts_without_words_are_equal(rt: HostRuntime) -> Result<(), Fail> {
+    assert!(rt; equals(rt.alloc(), "!", "?", false)?);
+    assert!(rt; !equals(rt.alloc(), "!", "?", true)?);
+    assert!(rt; !equals(rt.alloc(), "b", "?", false)?);
+    Ok(())
+}
+
+fn array_of(alloc: Global, node: Node) -> Result<Node, AllocError> {
+    let mut items = Items::new(alloc);
+    items.push(node)?;
+    Ok(Node::Items(items))
+}
+
+/// The object `{"t":[["fox"]]}`.
+fn nested(alloc: Global) -> Result<Node, AllocError> {
+    let fox = Node::Text(Text::from_str(alloc, "fox")?);
+    let inner = array_of(alloc, fox)?;
+    let mut members = Items::new(alloc);
+    members.push((Text::from_str(alloc, "t")?, array_of(alloc, inner)?))?;
+    Ok(Node::Members(members))
+}
+
+#[test]
+fn arrays_in_arrays_keep_their_owner(rt: HostRuntime) -> Result<(), Fail> {
+    let document = place(rt.alloc(), "/x", &[], nested(rt.alloc())?)?;
+    let values = one(rt.alloc(), text(rt.alloc(), "fox")?)?;
+    let query = stands(rt.alloc(), values, true)?;
+    assert!(rt; satisfies(rt.alloc(), &query, &document)?);
     Ok(())
 }
