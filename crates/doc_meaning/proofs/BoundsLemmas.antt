@@ -34,15 +34,19 @@ record Agrees (fit : NearFit) (m : Meaning) (b : Bounds) : Type 0 where
   maybe : fit.fits ≡ true → m.holds ≡ true → b.maybe ≡ true
 
 module _ (found : List StringNode) (case : Case) where
-  pub word_sure : (texts : List (List ℕ)) → (any_bound (map (text_bounds found case) texts)).sure ≡ true → is_nonempty (word_starts found texts case None) ≡ true
+  pub word_sure : (texts : List (List ℕ)) → (any_bound (map (text_bounds found case) texts)).sure ≡ true →
+      is_nonempty (word_starts found texts case None) ≡ true
   word_sure texts is =
       texts_stand found case texts
-      ∙ any_weaker _ _ (λ text. words_sure found (is_blind case text) (words_seen (is_blind case text) text)) texts (sym (any-map (λ b. b.sure) (text_bounds found case) texts) ∙ is)
+      ∙ any_weaker _ _ (λ text. words_sure found (is_blind case text) (words_seen (is_blind case text) text)) texts
+          (sym (any-map (λ b. b.sure) (text_bounds found case) texts) ∙ is)
 
-  pub word_maybe : (texts : List (List ℕ)) → is_nonempty (word_starts found texts case None) ≡ true → (any_bound (map (text_bounds found case) texts)).maybe ≡ true
+  pub word_maybe : (texts : List (List ℕ)) → is_nonempty (word_starts found texts case None) ≡ true →
+      (any_bound (map (text_bounds found case) texts)).maybe ≡ true
   word_maybe texts is =
       any-map (λ b. b.maybe) (text_bounds found case) texts
-      ∙ any_weaker _ _ (λ text. words_maybe found (is_blind case text) (words_seen (is_blind case text) text)) texts (sym (texts_stand found case texts) ∙ is)
+      ∙ any_weaker _ _ (λ text. words_maybe found (is_blind case text) (words_seen (is_blind case text) text)) texts
+          (sym (texts_stand found case texts) ∙ is)
 
   -- the words of a text stand in a property
   abbrev stands_under : List (List ℕ) → List ℕ → Bool
@@ -53,26 +57,29 @@ module _ (found : List StringNode) (case : Case) where
 
   name_sure : (texts : List (List ℕ)) (name : List ℕ) → (name_bounds texts name).sure ≡ true → list_any (stands_under (name ∷ [])) texts ≡ true
   name_sure texts name is =
-      any_weaker _ _ (λ text. prop_words_sure found name (is_blind case text) (words_seen (is_blind case text) text)) texts (sym (any-map (λ b. b.sure) (λ text. prop_text_bounds found case text name) texts) ∙ is)
+      any_weaker _ _ (λ text. prop_words_sure found name (is_blind case text) (words_seen (is_blind case text) text))
+          texts (sym (any-map (λ b. b.sure) (λ text. prop_text_bounds found case text name) texts) ∙ is)
 
   name_maybe : (texts : List (List ℕ)) (name : List ℕ) → list_any (stands_under (name ∷ [])) texts ≡ true → (name_bounds texts name).maybe ≡ true
   name_maybe texts name is =
       any-map (λ b. b.maybe) (λ text. prop_text_bounds found case text name) texts
       ∙ any_weaker _ _ (λ text. prop_words_maybe found name (is_blind case text) (words_seen (is_blind case text) text)) texts is
 
-  pub prop_sure : (names texts : List (List ℕ)) → (any_bound (map (name_bounds texts) names)).sure ≡ true → is_nonempty (word_starts found texts case (Some names)) ≡ true
+  pub prop_sure : (names texts : List (List ℕ)) → (any_bound (map (name_bounds texts) names)).sure ≡ true →
+      is_nonempty (word_starts found texts case (Some names)) ≡ true
   prop_sure names texts is =
       word_starts_stand found case (Some names) texts
       ∙ any_weaker _ _ (λ text. some_of_stand found names (is_blind case text) (words_seen (is_blind case text) text)) texts
       (any_swapped (λ (name : List ℕ) (text : List ℕ). stands_under (name ∷ []) text) names texts
       (any_weaker _ _ (name_sure texts) names (sym (any-map (λ b. b.sure) (name_bounds texts) names) ∙ is)))
 
-  pub prop_maybe : (names texts : List (List ℕ)) → is_nonempty (word_starts found texts case (Some names)) ≡ true → (any_bound (map (name_bounds texts) names)).maybe ≡ true
+  pub prop_maybe : (names texts : List (List ℕ)) → is_nonempty (word_starts found texts case (Some names)) ≡ true →
+      (any_bound (map (name_bounds texts) names)).maybe ≡ true
   prop_maybe names texts is =
-      any-map (λ b. b.maybe) (name_bounds texts) names
-      ∙ any_weaker _ _ (name_maybe texts) names
+      any-map (λ b. b.maybe) (name_bounds texts) names ∙ any_weaker _ _ (name_maybe texts) names
       (any_swapped (λ (text : List ℕ) (name : List ℕ). stands_under (name ∷ []) text) texts names
-      (any_weaker _ _ (λ text. stand_of_some found names (is_blind case text) (words_seen (is_blind case text) text)) texts (sym (word_starts_stand found case (Some names) texts) ∙ is)))
+      (any_weaker _ _ (λ text. stand_of_some found names (is_blind case text) (words_seen (is_blind case text) text))
+          texts (sym (word_starts_stand found case (Some names) texts) ∙ is)))
 
 leaf : (b : Bool) (fit : NearFit) → fit.may_be_near ≡ false → Agrees fit (plainly b) (exactly b)
 leaf b fit far = record { starts = λ is. cc; near = λ is holds. cc; sure = λ f is. is; maybe = λ f is. is }
@@ -88,7 +95,9 @@ alone distance ordered (n ∷ ns) is =
     near_from distance ordered ((n ∷ ns) ∷ []) (record {
       chosen = n ∷ [];
       one_each = ((0, omega arith, refl), tt);
-      close = All-cons (λ k. All (λ m. k ≤ m + distance) (n ∷ [])) n [] (All-cons (λ m. n ≤ m + distance) n [] (omega arith) (All-nil (λ m. n ≤ m + distance))) (All-nil (λ k. All (λ m. k ≤ m + distance) (n ∷ [])));
+      close = All-cons (λ k. All (λ m. k ≤ m + distance) (n ∷ [])) n []
+          (All-cons (λ m. n ≤ m + distance) n [] (omega arith) (All-nil (λ m. n ≤ m + distance)))
+          (All-nil (λ k. All (λ m. k ≤ m + distance) (n ∷ [])));
       rises = λ e. refl;
     })
 
@@ -122,31 +131,37 @@ module _ (d : PlainDocument) where
   abbrev all_near : List Agreed → Bool
   all_near ys = list_all (λ c. c.may_be_near) (fits_of ys)
 
-  all_sure : (ys : List Agreed) → all_fit ys ≡ true → list_all (λ b. b.sure) (bounds_of ys) ≡ true → list_all (λ m. m.holds) (meanings_of ys) ≡ true
+  all_sure : (ys : List Agreed) → all_fit ys ≡ true → list_all (λ b. b.sure) (bounds_of ys) ≡ true →
+      list_all (λ m. m.holds) (meanings_of ys) ≡ true
   all_sure [] fit is = refl
   all_sure (e ∷ ys) fit is =
       let fits = and_parts (near_fit e.0).fits (all_fit ys) fit in
       let parts = and_parts (bounds d e.0).sure (list_all (λ b. b.sure) (bounds_of ys)) is in
       and_from _ _ (e.1.sure fits.0 parts.0) (all_sure ys fits.1 parts.1)
 
-  all_maybe : (ys : List Agreed) → all_fit ys ≡ true → list_all (λ m. m.holds) (meanings_of ys) ≡ true → list_all (λ b. b.maybe) (bounds_of ys) ≡ true
+  all_maybe : (ys : List Agreed) → all_fit ys ≡ true → list_all (λ m. m.holds) (meanings_of ys) ≡ true →
+      list_all (λ b. b.maybe) (bounds_of ys) ≡ true
   all_maybe [] fit is = refl
   all_maybe (e ∷ ys) fit is =
       let fits = and_parts (near_fit e.0).fits (all_fit ys) fit in
       let parts = and_parts (meaning d e.0).holds (list_all (λ m. m.holds) (meanings_of ys)) is in
       and_from _ _ (e.1.maybe fits.0 parts.0) (all_maybe ys fits.1 parts.1)
 
-  any_sure : (ys : List Agreed) → all_fit ys ≡ true → list_any (λ b. b.sure) (bounds_of ys) ≡ true → list_any (λ m. m.holds) (meanings_of ys) ≡ true
+  any_sure : (ys : List Agreed) → all_fit ys ≡ true → list_any (λ b. b.sure) (bounds_of ys) ≡ true →
+      list_any (λ m. m.holds) (meanings_of ys) ≡ true
   any_sure [] fit is = is
   any_sure (e ∷ ys) fit is =
       let fits = and_parts (near_fit e.0).fits (all_fit ys) fit in
-      ⊎_elim (λ here. or_left _ _ (e.1.sure fits.0 here)) (λ later. or_right _ _ (any_sure ys fits.1 later)) (or_cases (bounds d e.0).sure (list_any (λ b. b.sure) (bounds_of ys)) is)
+      ⊎_elim (λ here. or_left _ _ (e.1.sure fits.0 here)) (λ later. or_right _ _ (any_sure ys fits.1 later))
+          (or_cases (bounds d e.0).sure (list_any (λ b. b.sure) (bounds_of ys)) is)
 
-  any_maybe : (ys : List Agreed) → all_fit ys ≡ true → list_any (λ m. m.holds) (meanings_of ys) ≡ true → list_any (λ b. b.maybe) (bounds_of ys) ≡ true
+  any_maybe : (ys : List Agreed) → all_fit ys ≡ true → list_any (λ m. m.holds) (meanings_of ys) ≡ true →
+      list_any (λ b. b.maybe) (bounds_of ys) ≡ true
   any_maybe [] fit is = is
   any_maybe (e ∷ ys) fit is =
       let fits = and_parts (near_fit e.0).fits (all_fit ys) fit in
-      ⊎_elim (λ here. or_left _ _ (e.1.maybe fits.0 here)) (λ later. or_right _ _ (any_maybe ys fits.1 later)) (or_cases (meaning d e.0).holds (list_any (λ m. m.holds) (meanings_of ys)) is)
+      ⊎_elim (λ here. or_left _ _ (e.1.maybe fits.0 here)) (λ later. or_right _ _ (any_maybe ys fits.1 later))
+          (or_cases (meaning d e.0).holds (list_any (λ m. m.holds) (meanings_of ys)) is)
 
   any_starts : (ys : List Agreed) → list_any (λ m. is_nonempty m.starts) (meanings_of ys) ≡ true → list_any (λ m. m.holds) (meanings_of ys) ≡ true
   any_starts [] is = is
@@ -154,20 +169,24 @@ module _ (d : PlainDocument) where
       ⊎_elim (λ here. or_left _ _ (e.1.starts here)) (λ later. or_right _ _ (any_starts ys later))
       (or_cases (is_nonempty (meaning d e.0).starts) (list_any (λ m. is_nonempty m.starts) (meanings_of ys)) is)
 
-  any_near : (ys : List Agreed) → all_near ys ≡ true → list_any (λ m. m.holds) (meanings_of ys) ≡ true → list_any (λ m. is_nonempty m.starts) (meanings_of ys) ≡ true
+  any_near : (ys : List Agreed) → all_near ys ≡ true → list_any (λ m. m.holds) (meanings_of ys) ≡ true →
+      list_any (λ m. is_nonempty m.starts) (meanings_of ys) ≡ true
   any_near [] near is = is
   any_near (e ∷ ys) near is =
       let nears = and_parts (near_fit e.0).may_be_near (all_near ys) near in
-      ⊎_elim (λ here. or_left _ _ (e.1.near nears.0 here)) (λ later. or_right _ _ (any_near ys nears.1 later)) (or_cases (meaning d e.0).holds (list_any (λ m. m.holds) (meanings_of ys)) is)
+      ⊎_elim (λ here. or_left _ _ (e.1.near nears.0 here)) (λ later. or_right _ _ (any_near ys nears.1 later))
+          (or_cases (meaning d e.0).holds (list_any (λ m. m.holds) (meanings_of ys)) is)
 
-  near_sure : (ys : List Agreed) (distance : ℕ) (ordered : Bool) → all_near ys ≡ true → all_fit ys ≡ true → (near_bounds (bounds_of ys)).sure ≡ true →
-      is_near distance ordered (map (λ m. m.starts) (meanings_of ys)) ≡ true
+  near_sure : (ys : List Agreed) (distance : ℕ) (ordered : Bool) → all_near ys ≡ true → all_fit ys ≡ true →
+      (near_bounds (bounds_of ys)).sure ≡ true → is_near distance ordered (map (λ m. m.starts) (meanings_of ys)) ≡ true
   near_sure [] distance ordered near fit is = nothing_near distance ordered
   near_sure (e ∷ []) distance ordered near fit is =
-      alone distance ordered (meaning d e.0).starts (e.1.near (and_parts (near_fit e.0).may_be_near true near).0 (e.1.sure (and_parts (near_fit e.0).fits true fit).0 is))
+      alone distance ordered (meaning d e.0).starts (e.1.near (and_parts (near_fit e.0).may_be_near true near).0
+          (e.1.sure (and_parts (near_fit e.0).fits true fit).0 is))
   near_sure (e ∷ f ∷ ys) distance ordered near fit is = cc
 
-  each_maybe : (ys : List Agreed) (chosen : List ℕ) → ChoosesOne chosen (map (λ m. m.starts) (meanings_of ys)) → all_fit ys ≡ true → list_all (λ b. b.maybe) (bounds_of ys) ≡ true
+  each_maybe : (ys : List Agreed) (chosen : List ℕ) → ChoosesOne chosen (map (λ m. m.starts) (meanings_of ys)) →
+      all_fit ys ≡ true → list_all (λ b. b.maybe) (bounds_of ys) ≡ true
   each_maybe [] chosen one fit = refl
   each_maybe (e ∷ ys) [] one fit = absurd one
   each_maybe (e ∷ ys) (n ∷ chosen) one fit =
@@ -179,13 +198,15 @@ module _ (d : PlainDocument) where
   near_all (e ∷ []) is = (and_parts (bounds d e.0).maybe true is).0
   near_all (e ∷ f ∷ ys) is = is
 
-  near_maybe : (ys : List Agreed) (distance : ℕ) (ordered : Bool) → all_fit ys ≡ true → is_near distance ordered (map (λ m. m.starts) (meanings_of ys)) ≡ true → (near_bounds (bounds_of ys)).maybe ≡ true
+  near_maybe : (ys : List Agreed) (distance : ℕ) (ordered : Bool) → all_fit ys ≡ true →
+      is_near distance ordered (map (λ m. m.starts) (meanings_of ys)) ≡ true → (near_bounds (bounds_of ys)).maybe ≡ true
   near_maybe ys distance ordered fit is =
       let near = near_of distance ordered (map (λ m. m.starts) (meanings_of ys)) is in
       near_all ys (each_maybe ys near.chosen near.one_each fit)
 
   layer : (y : Query-F Agreed) → Agrees (near_step (map-Query Query NearFit near_fit (map-Query Agreed Query (λ e. e.0) y)))
-      (meaning_step d (map-Query Query Meaning (meaning d) (map-Query Agreed Query (λ e. e.0) y))) (bounds_step d (map-Query Query Bounds (bounds d) (map-Query Agreed Query (λ e. e.0) y)))
+      (meaning_step d (map-Query Query Meaning (meaning d) (map-Query Agreed Query (λ e. e.0) y)))
+          (bounds_step d (map-Query Query Bounds (bounds d) (map-Query Agreed Query (λ e. e.0) y)))
   layer Query-F.True = leaf _ _ refl
   layer Query-F.False = leaf _ _ refl
   layer (Query-F.And ys) = record { starts = λ is. cc; near = λ is holds. is; sure = all_sure ys; maybe = all_maybe ys }
@@ -258,7 +279,8 @@ module _ (d : PlainDocument) where
   sound : (q : Query) → Sound q
   sound = ind-Query Sound (λ x y is. subst (λ z. Sound (roll-Query z)) is (step y))
 
-not_broken : (a b c fit : Bool) (w x y z : QueryBad) (r : Option QueryBad) → cond a (Some w) (cond b (Some x) (cond c (Some y) (cond (not fit) (Some z) r))) ≡ None → fit ≡ true
+not_broken : (a b c fit : Bool) (w x y z : QueryBad) (r : Option QueryBad) →
+    cond a (Some w) (cond b (Some x) (cond c (Some y) (cond (not fit) (Some z) r))) ≡ None → fit ≡ true
 not_broken true b c fit w x y z r is = cc
 not_broken false true c fit w x y z r is = cc
 not_broken false false true fit w x y z r is = cc
