@@ -12,7 +12,8 @@ use Rattle.std.specs.Str.{IsUtf8}
 use Rattle.json_text.specs.declared.fault.Fault.{Fault}
 use Rattle.json_text.specs.declared.fault.Fault.TheVariants as fault
 use Rattle.json_text.specs.Strings.{is_hex, short_escape, Char, plain, short, unit, is_char, char_text, unit_value, text_of, after, IsString}
-use Rattle.json_text.specs.Faults.{Begins, IsEscape, IsUnfinished, LoneHere}
+use Rattle.text_prefixes.specs.Prefixes.{Begins}
+use Rattle.json_text.specs.Faults.{IsEscape, IsUnfinished, LoneHere}
 use Rattle.json_text.specs.Reading.{◌>>=◌, Read, unexpected, or_fault, hex_at, unit_at, char_at, escape_at, end_at, run_at, piece_at, text_at}
 use Rattle.json_text.proofs.Fronts.{word_utf8}
 use Rattle.json_text.proofs.Sequences.{two_parts, lone}

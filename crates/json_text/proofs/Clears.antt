@@ -8,7 +8,8 @@ use Rattle.json_text.specs.declared.fault.Fault.{Fault}
 use Rattle.json_text.specs.declared.fault.Fault.TheVariants as fault
 use Rattle.json_text.specs.declared.lead.Lead.TheVariants as lead
 use Rattle.json_text.specs.Grammar.{is_white, null_text}
-use Rattle.json_text.specs.Faults.{Begins, IsNumeral, IsEscape, IsToken, IsUnfinished, LoneHere, NumberHere}
+use Rattle.text_prefixes.specs.Prefixes.{Begins}
+use Rattle.json_text.specs.Faults.{IsNumeral, IsEscape, IsToken, IsUnfinished, LoneHere, NumberHere}
 use Rattle.json_text.specs.Reading.{unexpected, lead_by, lead_of}
 use Rattle.json_text.proofs.Machine.{value, accepts, nothing_due}
 use Rattle.json_text.proofs.AcceptsScalars.{plain_run, numeral_opens}

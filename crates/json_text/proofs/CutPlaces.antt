@@ -5,7 +5,9 @@ use Rattle.std.specs.Str.{IsUtf8, IsValidUpTo}
 use Rattle.json_text.specs.declared.fault.Fault.{Fault}
 use Rattle.json_text.specs.declared.fault.Fault.TheVariants as fault
 use Rattle.json_text.specs.Grammar.{Padded}
-use Rattle.json_text.specs.Faults.{IsSpelled, BeginsWithin, BracketHere, IsPlace, IsLongest, FaultAt}
+use Rattle.json_text.specs.Faults.{IsSpelled, IsGrammatical, BeginsWithin, BracketHere, IsPlace, FaultAt}
+use Rattle.text_prefixes.specs.Prefixes.{Begins, IsLongestPrefix}
+use Rattle.text_prefixes.proofs.PrefixLemmas.{longest_by_one_more}
 use Rattle.json_text.specs.Answers.{placed}
 use Rattle.json_text.specs.Reading.{text_read}
 use Rattle.json_text.proofs.Sequences.{valid_here}
@@ -93,11 +95,11 @@ no_text bytes n c depth is =
     absurd cc
 
 longest : (bytes : List ℕ) (n : ℕ) (c : Cut (Padded (IsSpelled 128)) a_text 128 bytes (fault.Syntax n)) →
-    IsLongest bytes (length bytes - n)
-longest bytes n c depth = (
-  λ lt begins. begins_no_longer bytes (fault.Syntax n) c depth (128 + depth) (omega arith) (omega arith) lt begins,
-  λ is. no_text bytes n c depth is,
-)
+    IsPlace bytes (length bytes - n) → IsLongestPrefix IsGrammatical bytes (length bytes - n)
+longest bytes n c (within, _, (more, is), _) = longest_by_one_more IsGrammatical bytes (length bytes - n) within
+    (more, 128, is)
+    (λ lt (behind, depth, text). begins_no_longer bytes (fault.Syntax n) c depth (128 + depth) (omega arith) (omega arith)
+    lt (behind, text))
 
 too_deep : (bytes : List ℕ) (n : ℕ) (c : Cut (Padded (IsSpelled 128)) a_text 128 bytes (fault.Depth n)) →
     BeginsWithin 128 (take (length bytes - n + 1) bytes) → ⊥
@@ -122,7 +124,9 @@ too_deep bytes n c begins = begins_no_longer bytes (fault.Depth n) c 128 128 (om
 placed_by : (bytes : List ℕ) (f : Fault) → Cut (Padded (IsSpelled 128)) a_text 128 bytes f → Clear IsSomeText bytes f →
     FaultAt bytes (placed (length bytes) f)
 placed_by bytes (fault.Syntax n) c d =
-    (is_place bytes (fault.Syntax n) c d, longest bytes n c, λ v. c.cause (up_from 128 bytes (fault.Syntax n) c v))
+    let here = is_place bytes (fault.Syntax n) c d in
+    (here, longest bytes n c here, λ (depth, is). no_text bytes n c depth is,
+    λ v. c.cause (up_from 128 bytes (fault.Syntax n) c v))
 placed_by bytes (fault.Utf8 n) c d =
     (is_place bytes (fault.Utf8 n) c d, not_utf8 bytes n (valid_before bytes (fault.Utf8 n) c) d)
 placed_by bytes (fault.Depth n) c d = (

@@ -3,6 +3,7 @@ use Rattle.std.specs.Prelude.{ℕ, zero, suc, ◌≡◌, ◌+◌, ◌<◌, ◌�
 use Rattle.std.specs.List.{list_all}
 use Rattle.std.specs.Str.{IsUtf8, IsValidUpTo}
 use Rattle.doc_model.specs.declared.node.Node.{Node}
+use Rattle.text_prefixes.specs.Prefixes.{Begins, IsLongestPrefix}
 use Rattle.json_text.specs.declared.bad.JsonBad.{JsonBad}
 use Rattle.json_text.specs.declared.bad.JsonBad.TheVariants as bad
 use Rattle.json_text.specs.declared.fault.Fault.{Fault}
@@ -47,11 +48,11 @@ IsSpelled (suc depth) bytes =
     ⊎ ((inner : List ℕ) × AreParts (Padded (IsSpelled depth)) inner × (bytes ≡ 0x5B ∷ inner ++ 0x5D ∷ []))
     ⊎ ((inner : List ℕ) × AreParts (IsPair (IsSpelled depth)) inner × (bytes ≡ 0x7B ∷ inner ++ 0x7D ∷ []))
 
--- some text of this kind begins so
-abbrev pub Begins : (List ℕ → Type 0) → List ℕ → Type 0
-Begins IsText front = (more : List ℕ) × IsText (front ++ more)
+-- JSON text (section 2), whatever it holds and however deeply it nests
+abbrev pub IsGrammatical : List ℕ → Type 0
+IsGrammatical bytes = (depth : ℕ) × Padded (IsSpelled depth) bytes
 
--- some JSON text (section 2) begins so, in which at most so many arrays and objects enclose each other
+-- some JSON text begins so, in which at most so many arrays and objects enclose each other
 abbrev pub BeginsWithin : ℕ → List ℕ → Type 0
 BeginsWithin depth front = Begins (Padded (IsSpelled depth)) front
 
@@ -119,12 +120,6 @@ IsPlace bytes place =
     (place ≤ length bytes)
     × IsUtf8 (take place bytes) × BeginsWithin 128 (take place bytes) × IsClear (take place bytes)
 
--- with its next byte what stands before the place begins no JSON text, and the bytes are none
-abbrev pub IsLongest : List ℕ → ℕ → Type 0
-IsLongest bytes place =
-    (depth : ℕ) →
-    (place < length bytes → BeginsWithin depth (take (place + 1) bytes) → ⊥) × (Padded (IsSpelled depth) bytes → ⊥)
-
 -- a surrogate without its partner is escaped in a string
 abbrev pub IsLone : List ℕ → ℕ → Type 0
 IsLone bytes place = CharDue (take place bytes) × LoneHere (drop place bytes)
@@ -140,7 +135,8 @@ IsOutOfRange bytes place = ValueDue (take place bytes) × NumberHere (drop place
 
 -- what each fault tells of the bytes
 abbrev pub FaultAt : List ℕ → JsonBad → Type 0
-FaultAt bytes (bad.Syntax place) = IsPlace bytes place × IsLongest bytes place × (IsValidUpTo bytes place → ⊥)
+FaultAt bytes (bad.Syntax place) =
+    IsPlace bytes place × IsLongestPrefix IsGrammatical bytes place × (IsGrammatical bytes → ⊥) × (IsValidUpTo bytes place → ⊥)
 FaultAt bytes (bad.Utf8 place) = IsPlace bytes place × (IsValidUpTo bytes place ⊎ IsLone bytes place)
 FaultAt bytes (bad.Depth place) = IsPlace bytes place × IsTooDeep bytes place
 FaultAt bytes (bad.Number place) = IsPlace bytes place × IsOutOfRange bytes place
