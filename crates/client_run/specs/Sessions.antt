@@ -2,6 +2,7 @@
 use Rattle.std.specs.Prelude.{ℕ, ◌≡◌, ◌≢◌, ◌⊎◌, Bool, List, [], ◌∷◌, map, Option, Some, None}
 use Rattle.transcript.specs.Commands.{Asks}
 use Rattle.transcript.specs.Lines.{Line, content, Begins}
+use Rattle.transcript.specs.Refusals.{Refuses, IsLater}
 use Rattle.transcript.specs.Transcript.{Ends, IsOver, text_of_answer}
 use Rattle.transcript.specs.declared.command.Command.{Command}
 use Rattle.transcript.specs.declared.command.Command.TheVariants.{Quit}
@@ -13,15 +14,15 @@ use Rattle.transcript.specs.declared.session_end.SessionEnd.{SessionEnd}
 abbrev pub Relation : Type 0 → Type 1
 Relation S = S → Command → Reply → S → Type 0
 
--- how a line is answered: an empty one isn't; `quit` is without the service, and so is a line that asks nothing; all
--- else is asked of the service, unless memory is wanting before
+-- how a line is answered: an empty one isn't; `quit` is without the service, and so is a line that is refused or comes
+-- later; all else is asked of the service, unless memory is wanting before
 abbrev pub AnswersLine : {S : Type 0} → Relation S → S → List ℕ → Option Reply → S → Type 0
 AnswersLine answers old [] answer new = (answer ≡ None) × (new ≡ old)
 AnswersLine answers old line None new = ⊥
 AnswersLine answers old line (Some answer) new =
     ((asked : Command) × Asks line asked × (asked ≢ Quit) × answers old asked answer new)
     ⊎ (Asks line Quit × (answer ≡ reply.Bye) × (new ≡ old))
-    ⊎ (((asked : Command) → Asks line asked → ⊥) × (answer ≡ reply.Later) × (new ≡ old))
+    ⊎ ((Refuses line answer ⊎ IsLater line answer) × (new ≡ old))
     ⊎ ((answer ≡ reply.Memory) × (new ≡ old))
 
 -- a line that was served, and its reply

@@ -18,10 +18,11 @@ pub record Held : Type 0 where
   pub documents : Database
   pub down : Option ℕ
 
--- what a reader sees: the front, the merge timestamp, and the documents at the front
+-- what a reader sees: the front, the merge timestamp, the settings, and the documents at the front
 pub record Seen : Type 0 where
   pub front : ℕ
   pub merge : ℕ
+  pub settings : BaseSettings
   pub documents : Database
 
 -- the engine is at this history
@@ -35,6 +36,7 @@ pub record IsAt (held : Held) (h : History) : Type 0 where
 pub record IsSeenOf (seen : Seen) (h : History) : Type 0 where
   pub front : seen.front ≡ front h
   pub merge : seen.merge ≡ merge h
+  pub settings : seen.settings ≡ h.base.settings
   pub documents : seen.documents ≡ latest h
 
 module _ {D Y F B : Type 0} {of_disk : Disk.Ghosts D} {of_yard : Yard.Ghosts Y F B} {of_file : SealedFile.Ghosts F}
@@ -61,8 +63,18 @@ module _ {D Y F B : Type 0} {of_disk : Disk.Ghosts D} {of_yard : Yard.Ghosts Y F
 
 -- what is seen of what is held
 abbrev pub seen_of : Held → Seen
-seen_of held = record { front = held.front; merge = held.merge; documents = held.documents }
+seen_of held = record {
+  front = held.front;
+  merge = held.merge;
+  settings = held.settings;
+  documents = held.documents;
+}
 
 -- what a snapshot shows
 abbrev pub view_of : Snapshot → Seen
-view_of snapshot = record { front = snapshot.front; merge = snapshot.merge; documents = snapshot.documents.now }
+view_of snapshot = record {
+  front = snapshot.front;
+  merge = snapshot.merge;
+  settings = settings_of snapshot.settings.now;
+  documents = snapshot.documents.now;
+}

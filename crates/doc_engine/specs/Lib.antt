@@ -4,6 +4,7 @@ pub mod Standing
 pub mod Checks
 pub mod Calls
 pub mod Laws
+pub mod Reads
 pub mod Restoring
 pub mod Opening
 pub mod Finding

@@ -4,6 +4,7 @@ use Rattle.doc_model.specs.declared.entry.Entry.{Entry}
 use Rattle.doc_model.specs.declared.entry.Entry.TheVariants as entry
 use Rattle.doc_model.specs.declared.op.Op.{Op}
 use Rattle.doc_meaning.specs.History.{Base, IsBase, IsHistory, front}
+use Rattle.transcript.specs.Forms.{Form, HasForm}
 use Rattle.transcript.specs.Legal.{AreLegal}
 use Rattle.transcript.specs.Transcript.{Session, Agrees}
 use Rattle.transcript.specs.Turns.{Event, commit, forget, Answer, commits, forgets, Turn, history_of}
@@ -43,3 +44,7 @@ HistoryHasNoOthers = (base : Base) (longest : ℕ) (turns : List Turn) (i : ℕ)
 abbrev pub LegalTurnsMakeAHistory : Type 0
 LegalTurnsMakeAHistory = (base : Base) (longest : ℕ) (turns : List Turn) → IsBase base → AreLegal base longest turns →
     IsHistory (history_of base turns)
+
+-- a line has one form at most
+abbrev pub OneFormIsHad : Type 0
+OneFormIsHad = (line : List ℕ) (a b : Form) → HasForm line a → HasForm line b → a ≡ b

@@ -1,8 +1,10 @@
 pub mod Answers
 pub mod Commands
+pub mod Forms
 pub mod Laws
 pub mod Legal
 pub mod Lines
+pub mod Refusals
 pub mod Texts
 pub mod Transcript
 pub mod Turns

@@ -6,6 +6,7 @@ use Rattle.doc_meaning.specs.History.{Base, History, front, merge}
 use Rattle.transcript.specs.Answers.{reply_to_commit, reply_to_forget, reply_to_revive, reply_to_get, reply_to_search, reply_to_estimate, reads_of}
 use Rattle.transcript.specs.Commands.{Asks}
 use Rattle.transcript.specs.Lines.{Line, last, content, Begins, HasNoFeed, IsPastLimits, longest_line}
+use Rattle.transcript.specs.Refusals.{Refuses, IsLater}
 use Rattle.transcript.specs.Texts.{text_of}
 use Rattle.transcript.specs.Turns.{commit, forget, wish, revive, Answer, done, Turn}
 use Rattle.transcript.specs.OwnTurns.{TurnAt, turns_of, Uses, UsesLookAt, Looks}
@@ -109,14 +110,6 @@ LacksMemory base line old used answer new =
     × (((used ≡ []) × (new ≡ old))
     ⊎ ((asked : Command) × (h : History) × Asks line asked × ReadsFrom base old asked used h
     × (new ≡ record old { reads = old.reads + reads_of asked h })))
-
--- a line whose form is read and which is refused; no such refusal is answered so far
-abbrev pub Refuses : List ℕ → Reply → Type 0
-Refuses line answer = ⊥
-
--- a line that asks nothing that is read so far
-abbrev pub IsLater : List ℕ → Reply → Type 0
-IsLater line answer = ((asked : Command) → Asks line asked → ⊥) × (answer ≡ reply.Later)
 
 -- how a line is answered; an empty one isn't
 abbrev pub AnswersLine : Base → SessionState → List ℕ → List TurnAt → Option Reply → SessionState → Type 0

@@ -1,4 +1,4 @@
-ghost use Rattle.transcript.specs.Laws.{HistoryHasEachOnce, HistoryHasNoOthers, LaterTurnsChangeNothing, LegalTurnsMakeAHistory};
+ghost use Rattle.transcript.specs.Laws.{HistoryHasEachOnce, HistoryHasNoOthers, LaterTurnsChangeNothing, LegalTurnsMakeAHistory, OneFormIsHad};
 
 /// A session that agrees with turns agrees with them and any further turns of others.
 pub fn later_turns_change_nothing()
@@ -19,4 +19,9 @@ pub fn history_has_no_others()
 /// Over a base, legal turns make a history that may come about.
 pub fn legal_turns_make_a_history()
     ensures { LegalTurnsMakeAHistory }
+{}
+
+/// A line has one form at most.
+pub fn one_form_is_had()
+    ensures { OneFormIsHad }
 {}

@@ -11,7 +11,7 @@ mod wish;
 pub use command::{Command, When};
 pub use laws::{
     history_has_each_once, history_has_no_others, later_turns_change_nothing,
-    legal_turns_make_a_history,
+    legal_turns_make_a_history, one_form_is_had,
 };
 pub use reply::{BadKind, Reply};
 pub use session_end::SessionEnd;
