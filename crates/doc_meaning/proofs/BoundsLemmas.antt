@@ -39,14 +39,14 @@ module _ (found : List StringNode) (case : Case) where
   word_sure texts is =
       texts_stand found case texts
       ∙ any_weaker _ _ (λ text. words_sure found (is_blind case text) (words_seen (is_blind case text) text)) texts
-          (sym (any-map (λ b. b.sure) (text_bounds found case) texts) ∙ is)
+      (sym (any-map (λ b. b.sure) (text_bounds found case) texts) ∙ is)
 
   pub word_maybe : (texts : List (List ℕ)) → is_nonempty (word_starts found texts case None) ≡ true →
       (any_bound (map (text_bounds found case) texts)).maybe ≡ true
   word_maybe texts is =
       any-map (λ b. b.maybe) (text_bounds found case) texts
       ∙ any_weaker _ _ (λ text. words_maybe found (is_blind case text) (words_seen (is_blind case text) text)) texts
-          (sym (texts_stand found case texts) ∙ is)
+      (sym (texts_stand found case texts) ∙ is)
 
   -- the words of a text stand in a property
   abbrev stands_under : List (List ℕ) → List ℕ → Bool
@@ -58,7 +58,7 @@ module _ (found : List StringNode) (case : Case) where
   name_sure : (texts : List (List ℕ)) (name : List ℕ) → (name_bounds texts name).sure ≡ true → list_any (stands_under (name ∷ [])) texts ≡ true
   name_sure texts name is =
       any_weaker _ _ (λ text. prop_words_sure found name (is_blind case text) (words_seen (is_blind case text) text))
-          texts (sym (any-map (λ b. b.sure) (λ text. prop_text_bounds found case text name) texts) ∙ is)
+      texts (sym (any-map (λ b. b.sure) (λ text. prop_text_bounds found case text name) texts) ∙ is)
 
   name_maybe : (texts : List (List ℕ)) (name : List ℕ) → list_any (stands_under (name ∷ [])) texts ≡ true → (name_bounds texts name).maybe ≡ true
   name_maybe texts name is =
@@ -79,7 +79,7 @@ module _ (found : List StringNode) (case : Case) where
       any-map (λ b. b.maybe) (name_bounds texts) names ∙ any_weaker _ _ (name_maybe texts) names
       (any_swapped (λ (text : List ℕ) (name : List ℕ). stands_under (name ∷ []) text) texts names
       (any_weaker _ _ (λ text. stand_of_some found names (is_blind case text) (words_seen (is_blind case text) text))
-          texts (sym (word_starts_stand found case (Some names) texts) ∙ is)))
+      texts (sym (word_starts_stand found case (Some names) texts) ∙ is)))
 
 leaf : (b : Bool) (fit : NearFit) → fit.may_be_near ≡ false → Agrees fit (plainly b) (exactly b)
 leaf b fit far = record { starts = λ is. cc; near = λ is holds. cc; sure = λ f is. is; maybe = λ f is. is }
@@ -153,7 +153,7 @@ module _ (d : PlainDocument) where
   any_sure (e ∷ ys) fit is =
       let fits = and_parts (near_fit e.0).fits (all_fit ys) fit in
       ⊎_elim (λ here. or_left _ _ (e.1.sure fits.0 here)) (λ later. or_right _ _ (any_sure ys fits.1 later))
-          (or_cases (bounds d e.0).sure (list_any (λ b. b.sure) (bounds_of ys)) is)
+      (or_cases (bounds d e.0).sure (list_any (λ b. b.sure) (bounds_of ys)) is)
 
   any_maybe : (ys : List Agreed) → all_fit ys ≡ true → list_any (λ m. m.holds) (meanings_of ys) ≡ true →
       list_any (λ b. b.maybe) (bounds_of ys) ≡ true
@@ -161,7 +161,7 @@ module _ (d : PlainDocument) where
   any_maybe (e ∷ ys) fit is =
       let fits = and_parts (near_fit e.0).fits (all_fit ys) fit in
       ⊎_elim (λ here. or_left _ _ (e.1.maybe fits.0 here)) (λ later. or_right _ _ (any_maybe ys fits.1 later))
-          (or_cases (meaning d e.0).holds (list_any (λ m. m.holds) (meanings_of ys)) is)
+      (or_cases (meaning d e.0).holds (list_any (λ m. m.holds) (meanings_of ys)) is)
 
   any_starts : (ys : List Agreed) → list_any (λ m. is_nonempty m.starts) (meanings_of ys) ≡ true → list_any (λ m. m.holds) (meanings_of ys) ≡ true
   any_starts [] is = is
@@ -175,14 +175,14 @@ module _ (d : PlainDocument) where
   any_near (e ∷ ys) near is =
       let nears = and_parts (near_fit e.0).may_be_near (all_near ys) near in
       ⊎_elim (λ here. or_left _ _ (e.1.near nears.0 here)) (λ later. or_right _ _ (any_near ys nears.1 later))
-          (or_cases (meaning d e.0).holds (list_any (λ m. m.holds) (meanings_of ys)) is)
+      (or_cases (meaning d e.0).holds (list_any (λ m. m.holds) (meanings_of ys)) is)
 
   near_sure : (ys : List Agreed) (distance : ℕ) (ordered : Bool) → all_near ys ≡ true → all_fit ys ≡ true →
       (near_bounds (bounds_of ys)).sure ≡ true → is_near distance ordered (map (λ m. m.starts) (meanings_of ys)) ≡ true
   near_sure [] distance ordered near fit is = nothing_near distance ordered
   near_sure (e ∷ []) distance ordered near fit is =
       alone distance ordered (meaning d e.0).starts (e.1.near (and_parts (near_fit e.0).may_be_near true near).0
-          (e.1.sure (and_parts (near_fit e.0).fits true fit).0 is))
+      (e.1.sure (and_parts (near_fit e.0).fits true fit).0 is))
   near_sure (e ∷ f ∷ ys) distance ordered near fit is = cc
 
   each_maybe : (ys : List Agreed) (chosen : List ℕ) → ChoosesOne chosen (map (λ m. m.starts) (meanings_of ys)) →
@@ -206,7 +206,7 @@ module _ (d : PlainDocument) where
 
   layer : (y : Query-F Agreed) → Agrees (near_step (map-Query Query NearFit near_fit (map-Query Agreed Query (λ e. e.0) y)))
       (meaning_step d (map-Query Query Meaning (meaning d) (map-Query Agreed Query (λ e. e.0) y)))
-          (bounds_step d (map-Query Query Bounds (bounds d) (map-Query Agreed Query (λ e. e.0) y)))
+      (bounds_step d (map-Query Query Bounds (bounds d) (map-Query Agreed Query (λ e. e.0) y)))
   layer Query-F.True = leaf _ _ refl
   layer Query-F.False = leaf _ _ refl
   layer (Query-F.And ys) = record { starts = λ is. cc; near = λ is holds. is; sure = all_sure ys; maybe = all_maybe ys }

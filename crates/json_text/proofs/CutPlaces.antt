@@ -124,9 +124,12 @@ too_deep bytes n c begins = begins_no_longer bytes (fault.Depth n) c 128 128 (om
 placed_by : (bytes : List ℕ) (f : Fault) → Cut (Padded (IsSpelled 128)) a_text 128 bytes f → Clear IsSomeText bytes f →
     FaultAt bytes (placed (length bytes) f)
 placed_by bytes (fault.Syntax n) c d =
-    let here = is_place bytes (fault.Syntax n) c d in
-    (here, longest bytes n c here, λ (depth, is). no_text bytes n c depth is,
-    λ v. c.cause (up_from 128 bytes (fault.Syntax n) c v))
+    let here = is_place bytes (fault.Syntax n) c d in (
+      here,
+      longest bytes n c here,
+      λ (depth, is). no_text bytes n c depth is,
+      λ v. c.cause (up_from 128 bytes (fault.Syntax n) c v),
+    )
 placed_by bytes (fault.Utf8 n) c d =
     (is_place bytes (fault.Utf8 n) c d, not_utf8 bytes n (valid_before bytes (fault.Utf8 n) c) d)
 placed_by bytes (fault.Depth n) c d = (

@@ -23,8 +23,8 @@ longest_by_one_more IsText bytes count within begins stuck = record {
   within = within;
   begins = begins;
   longest = λ more less le is. stuck (omega arith)
-  (begins_with_less IsText (take (count + 1) bytes) (take (more - (count + 1)) (drop (count + 1) bytes))
-  (subst (Begins IsText) (take_more bytes (count + 1) more (omega arith)) is));
+      (begins_with_less IsText (take (count + 1) bytes) (take (more - (count + 1)) (drop (count + 1) bytes))
+      (subst (Begins IsText) (take_more bytes (count + 1) more (omega arith)) is));
 }
 
 -- of the prefixes that begin a text of the language, one at most is the longest
