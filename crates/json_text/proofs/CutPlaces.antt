@@ -97,7 +97,7 @@ no_text bytes n c depth is =
 longest : (bytes : List ℕ) (n : ℕ) (c : Cut (Padded (IsSpelled 128)) a_text 128 bytes (fault.Syntax n)) →
     IsPlace bytes (length bytes - n) → IsLongestPrefix IsGrammatical bytes (length bytes - n)
 longest bytes n c (within, _, (more, is), _) = longest_by_one_more IsGrammatical bytes (length bytes - n) within
-    (more, 128, is)
+    (more, (128, is))
     (λ lt (behind, depth, text). begins_no_longer bytes (fault.Syntax n) c depth (128 + depth) (omega arith) (omega arith)
     lt (behind, text))
 
