@@ -96,10 +96,11 @@ no_text bytes n c depth is =
 
 longest : (bytes : List ℕ) (n : ℕ) (c : Cut (Padded (IsSpelled 128)) a_text 128 bytes (fault.Syntax n)) →
     IsPlace bytes (length bytes - n) → IsLongestPrefix IsGrammatical bytes (length bytes - n)
-longest bytes n c (within, _, (more, is), _) = longest_by_one_more IsGrammatical bytes (length bytes - n) within
-    (more, (128, is))
-    (λ lt (behind, depth, text). begins_no_longer bytes (fault.Syntax n) c depth (128 + depth) (omega arith) (omega arith)
-    lt (behind, text))
+longest bytes n c (within, _, (more, is), _) =
+    let text : IsGrammatical (take (length bytes - n) bytes ++ more) = (128, is) in
+    longest_by_one_more IsGrammatical bytes (length bytes - n) within (more, text) (λ lt begun.
+    begins_no_longer bytes (fault.Syntax n) c begun.1.0 (128 + begun.1.0) (omega arith) (omega arith) lt
+    (begun.0, begun.1.1))
 
 too_deep : (bytes : List ℕ) (n : ℕ) (c : Cut (Padded (IsSpelled 128)) a_text 128 bytes (fault.Depth n)) →
     BeginsWithin 128 (take (length bytes - n + 1) bytes) → ⊥
