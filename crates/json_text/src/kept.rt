@@ -1,4 +1,4 @@
-ghost use Rattle.std.specs.Prelude.{◌≡◌, ◌<◌, ℕ, List, length, IfOk, IfSome, OnOk};
+ghost use Rattle.std.specs.Prelude.{◌≡◌, ℕ, List, IfOk, OnOk};
 ghost use Rattle.std.specs.BTreeMap.{get};
 ghost use Rattle.std.specs.Cmp.Lexicographic.{slice_cmp};
 ghost use Rattle.std.specs.Ordering.{nat_cmp};
@@ -15,19 +15,14 @@ const FEW: usize = 8;
 
 /// The place of the first member of this name.
 fn place_in(members: &[(Text, Node)], name: &str) -> Option<usize>
-    ensures place { result ≡ place_of members.now name.now }
-    ensures within { IfSome result (λ i. i < length members.now) }
+    ensures { result ≡ place_of members.now name.now }
 {
-    match members {
-        [] => None,
-        [first, others @ ..] => {
-            if first.0.as_str() == name {
-                return Some(0);
-            }
-            let place = place_in(others, name)?;
-            Some(place + 1)
+    for (i, member) in members.iter().enumerate() {
+        if member.0.as_str() == name {
+            return Some(i);
         }
     }
+    None
 }
 
 /// Puts a member to those that count: in the place of its name, or behind all.
@@ -62,11 +57,16 @@ fn put(
     ensures kept { OnOk result (kept.new.items ≡ put kept.old.items (name, value)) }
     ensures places { OnOk result (Places places.new kept.new.items) }
 {
-    let place = places.get(&name).copied();
-    if place.is_none() {
-        places.insert(name.copy(alloc)?, kept.len())?;
+    match places.get(&name) {
+        Some(place) => {
+            let place = *place;
+            put_at(kept, Some(place), name, value)
+        }
+        None => {
+            places.insert(name.copy(alloc)?, kept.len())?;
+            put_at(kept, None, name, value)
+        }
     }
-    put_at(kept, place, name, value)
 }
 
 fn few_values(alloc: Global, written: Vec<(Text, Node)>) -> Result<Vec<(Text, Node)>, AllocError>
