@@ -1,6 +1,6 @@
 ghost use Rattle.std.specs.Prelude.{◌≡◌, IfOk, map};
 ghost use Rattle.std.specs.List.{list_all};
-ghost use Rattle.doc_model.specs.Tree.{has_distinct_names, is_distinct};
+ghost use Rattle.doc_model.specs.Tree.{has_distinct_names, is_among, is_distinct};
 
 use crate::{Members, Node, Nodes, Text};
 use std::alloc::{AllocError, Global};
@@ -47,7 +47,41 @@ fn members_distinct(alloc: Global, members: &Members) -> Result<bool, AllocError
     Ok(true)
 }
 
+/// So many names are compared in pairs, which takes no memory.
+const FEW: usize = 8;
+
 fn is_distinct(alloc: Global, members: &[(Text, Node)]) -> Result<bool, AllocError>
+    ensures { IfOk result (λ b. b ≡ is_distinct (map (λ m. m.0) members.now)) }
+{
+    if members.len() <= FEW {
+        return Ok(are_few_distinct(members));
+    }
+    are_many_distinct(alloc, members)
+}
+
+fn are_few_distinct(members: &[(Text, Node)]) -> bool
+    ensures { result ≡ is_distinct (map (λ m. m.0) members.now) }
+{
+    for (i, member) in members.iter().enumerate() {
+        if is_named(&members[i + 1..], member.0.as_str()) {
+            return false;
+        }
+    }
+    true
+}
+
+fn is_named(members: &[(Text, Node)], name: &str) -> bool
+    ensures { result ≡ is_among (map (λ m. m.0) members.now) name.now }
+{
+    for member in members {
+        if name == member.0.as_str() {
+            return true;
+        }
+    }
+    false
+}
+
+fn are_many_distinct(alloc: Global, members: &[(Text, Node)]) -> Result<bool, AllocError>
     ensures { IfOk result (λ b. b ≡ is_distinct (map (λ m. m.0) members.now)) }
 {
     let mut seen: BTreeMap<&str, ()> = BTreeMap::new(alloc);

@@ -36,7 +36,7 @@ impl Frame {
     pub fn of(alloc: Global, body: &[u8]) -> Result<Frame, AllocError>
         ensures { IfOk result (λ frame. frame ≡ body.now) }
     {
-        let mut bytes = Vec::new(alloc);
+        let mut bytes = Vec::with_capacity(alloc, body.len().saturating_add(9))?;
         bytes.extend_from_slice(&(body.len() as u64).to_be_bytes())?;
         bytes.extend_from_slice(body)?;
         bytes.push(CLOSED)?;

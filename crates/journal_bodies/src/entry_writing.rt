@@ -28,9 +28,24 @@ pub fn commit_body(alloc: Global, number: u64, ops: &Ops) -> Result<Vec<u8>, All
     ensures spelled { IsEntry number (entry_kind.Commit ops.now)
         → IfOk result (λ bytes. SpellsEntry bytes.items number (entry_kind.Commit ops.now)) }
 {
-    let mut out = Vec::new(alloc);
+    let mut out = Vec::with_capacity(alloc, room_of(ops.as_slice()))?;
     put_commit(&mut out, number, ops.as_slice())?;
     Ok(out)
+}
+
+// About as many bytes as operations take: a node of a document takes one, and a text or a count five more.
+fn room_of(list: &[Op]) -> usize {
+    let mut room: usize = 64;
+    for op in list {
+        let size = match op {
+            Op::Put { document, .. } => document.size() as usize,
+            Op::Remove { .. } => 0,
+        };
+        room = room
+            .saturating_add(size.saturating_mul(2))
+            .saturating_add(64);
+    }
+    room
 }
 
 fn put_entry(out: &mut Vec<u8>, number: u64, value: &Entry) -> Result<(), AllocError>

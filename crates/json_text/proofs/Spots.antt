@@ -1,5 +1,5 @@
 -- What putting a member does to the places of names.
-use Rattle.std.proofs.Common.{◌≡◌, ℕ, suc, ◌<◌, Bool, true, false, cond, List, [], ◌∷◌, ◌++◌, length, get_or, Option, Some, None, refl, sym, ap, ◌∙◌, arith}
+use Rattle.std.proofs.Common.{◌≡◌, ℕ, suc, ◌<◌, ◌+◌, Bool, true, false, cond, List, [], ◌∷◌, ◌++◌, length, get_or, Option, Some, None, refl, sym, ap, ◌∙◌, arith}
 use Rattle.std.proofs.Math.ListN.{set}
 use Rattle.std.proofs.lemmas.Slice.Eq.{bytes_eq-Decides}
 use Rattle.std.proofs.lemmas.Map.Text.{is_eq-slice_cmp}
@@ -123,3 +123,8 @@ inserted members member q key len now old key-is len-is now-is old-is gone =
     ∙ ap (λ (n : ℕ). cond (bytes_eq member.0 q) (Some n) old) len-is
     ∙ ap (λ (o : Option ℕ). cond (bytes_eq member.0 q) (Some (length members)) o) old-is
     ∙ place_new members member q gone
+
+-- so many places further
+abbrev pub moved : ℕ → Option ℕ → Option ℕ
+moved n None = None
+moved n (Some i) = Some (n + i)

@@ -12,6 +12,9 @@ pub fn first_twice(alloc: Global, ops: &Ops) -> Result<Option<Text>, AllocError>
     ensures first { IfOk result (λ found. found ≡ first_twice [] (map uri_of ops.now)) }
     ensures distinct { IfOk result (λ found. IfNone found (IsTrue (is_distinct (map uri_of ops.now)))) }
 {
+    if let [_] = ops.as_slice() {
+        return Ok(None);
+    }
     let mut met = BTreeSet::new(alloc);
     for op in ops.as_slice() {
         let uri = op.uri();

@@ -5,7 +5,7 @@ use Rattle.std.specs.BTreeMap.{is_at}
 use Rattle.std.specs.Cmp.Lexicographic.{slice_cmp}
 use Rattle.std.specs.Ordering.{nat_cmp}
 use Rattle.doc_model.proofs.NamesLemmas.{are_fresh, has_name, fresh_first, fresh_same, fresh_more, stale_here}
-use Rattle.doc_model.proofs.names.is_distinct.Goals as goal
+use Rattle.doc_model.proofs.names.are_many_distinct.Goals as goal
 
 pub loop-member-init : goal.loop-member-init
 loop-member-init c =
