@@ -1,9 +1,11 @@
 pub mod BoolLemmas
+pub mod ConditionLemmas
 pub mod FoundLemmas
 pub mod NearLemmas
 pub mod PhraseLemmas
-pub mod QueryLemmas
 pub mod RunLemmas
+pub mod ScalarLemmas
+pub mod StandLemmas
 pub mod TextLemmas
 pub mod ValueLemmas
 pub mod WindowLemmas

@@ -1,24 +1,18 @@
 -- Words that stand one after another in strings by their words, and in the strings themselves.
-use Rattle.std.proofs.Common.{◌≡◌, ℕ, ◌+◌, ◌<◌, ◌^◌, ◌++◌, ◌&&◌, ◌||◌, Bool, true, false, cond, List, [], ◌∷◌}
-use Rattle.std.proofs.Common.{map, flat_map, filter, length, All, Option, refl, sym, ap, ◌∙◌, arith}
-use Rattle.std.proofs.lemmas.List.Elements.{All-weaker}
+use Rattle.std.proofs.Common.{◌≡◌, ℕ, ◌+◌, ◌++◌, ◌||◌, Bool, true, false, cond, List, [], ◌∷◌}
+use Rattle.std.proofs.Common.{map, flat_map, filter, Option, refl, sym, ap, ◌∙◌}
 use Rattle.std.proofs.lemmas.List.Folds.{flat_map-map}
 use Rattle.std.specs.List.{list_any}
+use Rattle.doc_model.specs.declared.node.Node.{Node}
 use Rattle.doc_model.specs.declared.query.Case.{Case}
 use Rattle.doc_meaning.specs.declared.string_node.StringNode.{StringNode}
-use Rattle.doc_meaning.specs.Meaning.{is_nonempty, word_starts}
-use Rattle.doc_meaning.specs.Strings.{is_blind, is_owned, places, starts_among, starts_in, words_seen}
-use Rattle.doc_meaning.proofs.AnyLemmas.{any-filter, any-map, any_same}
-use Rattle.plain_query.proofs.PlaceLemmas.{places_below}
+use Rattle.doc_meaning.specs.Meaning.{is_nonempty}
+use Rattle.doc_meaning.specs.Strings.{is_blind, is_owned, places, starts_among, words_seen}
+use Rattle.doc_meaning.proofs.AnyLemmas.{any-filter, any_same}
+use Rattle.doc_filter.specs.declared.phrase.Phrase.{Phrase}
 use Rattle.doc_filter.specs.declared.worded_string.WordedString.{WordedString}
-use Rattle.doc_filter.specs.Worded.{IsNumbered, has_phrase, phrase_starts, places_in, worded}
-
--- the places in a string are numbered
-pub places_numbered : (w : WordedString) (wanted : List (List ℕ)) → IsNumbered w →
-    All (λ j. w.base + j < 2 ^ 64) (places wanted w.words)
-places_numbered w wanted fits =
-    All-weaker (λ j. j < length w.words) (λ j. w.base + j < 2 ^ 64) (λ j lt. omega (arith, lt, fits))
-    (places wanted w.words) (places_below wanted w.words)
+use Rattle.doc_filter.specs.Conditions.{starts_of, starts_of_some}
+use Rattle.doc_filter.specs.Worded.{has_phrase, phrase_starts, places_in, worded}
 
 nonempty-append : (xs ys : List ℕ) → is_nonempty (xs ++ ys) ≡ (is_nonempty xs || is_nonempty ys)
 nonempty-append [] ys = refl
@@ -45,11 +39,20 @@ filter-map p h (x ∷ xs) = ap (λ ys. cond (p (h x)) (h x ∷ ys) ys) (filter-m
     go true = refl
     go false = refl
 
--- some text starts somewhere
-pub word_starts_any : (found : List StringNode) (texts : List (List ℕ)) (case : Case) (names : Option (List (List ℕ))) →
-    is_nonempty (word_starts found texts case names)
-    ≡ list_any (λ text. is_nonempty (starts_among found text case names)) texts
-word_starts_any found texts case names = nonempty-flat_map (λ text. starts_among found text case names) texts
+-- some phrase starts somewhere
+pub some_starts_any : (root : Node) (names : Option (List (List ℕ))) (phrases : List Phrase) →
+    is_nonempty (starts_of_some root names phrases) ≡ list_any (λ phrase. is_nonempty (starts_of root names phrase)) phrases
+some_starts_any root names phrases = nonempty-flat_map (starts_of root names) phrases
+
+-- no words start nowhere
+pub no_starts : (found : List WordedString) (wanted : List (List ℕ)) (names : Option (List (List ℕ))) → wanted ≡ [] →
+    phrase_starts found wanted names ≡ []
+no_starts found wanted names none =
+    ap (λ ws. phrase_starts found ws names) none ∙ go (filter (λ w. is_owned names w.owner) found)
+  where
+    go : (ws : List WordedString) → flat_map (λ w. places_in w []) ws ≡ []
+    go [] = refl
+    go (w ∷ ws) = go ws
 
 -- where a text starts in strings, by their words
 pub phrase_starts_are : (found : List StringNode) (text : List ℕ) (case : Case) (names : Option (List (List ℕ))) →
@@ -63,18 +66,12 @@ phrase_starts_are found text case names =
     ∙ flat_map-map (λ w. places_in w (words_seen blind text)) (worded blind)
     (filter (λ s. is_owned names s.owner) found)
 
--- whether it does
-pub has_phrase_is : (found : List StringNode) (text : List ℕ) (case : Case) (names : Option (List (List ℕ))) →
-    has_phrase (map (worded (is_blind case text)) found) (words_seen (is_blind case text) text) names
-    ≡ is_nonempty (starts_among found text case names)
-unfolding starts_among
-has_phrase_is found text case names =
-    let blind = is_blind case text in
-    let wanted = words_seen blind text in
-    let owned = filter (λ s. is_owned names s.owner) found in
-    any-map (λ w. is_owned names w.owner && is_nonempty (places wanted w.words)) (worded blind) found
-    ∙ sym (any-filter (λ s. is_nonempty (places wanted (words_seen blind s.text))) (λ s. is_owned names s.owner) found)
-    ∙ sym (any_same (λ s. is_nonempty (starts_in s text case))
-    (λ s. is_nonempty (places wanted (words_seen blind s.text)))
-    (λ s. nonempty-map (λ j. s.base + j) (places wanted (words_seen blind s.text))) owned)
-    ∙ sym (nonempty-flat_map (λ s. starts_in s text case) owned)
+-- whether words start somewhere in strings
+pub phrase_somewhere : (found : List WordedString) (wanted : List (List ℕ)) (names : Option (List (List ℕ))) →
+    has_phrase found wanted names ≡ is_nonempty (phrase_starts found wanted names)
+phrase_somewhere found wanted names =
+    let owned = filter (λ w. is_owned names w.owner) found in
+    sym (any-filter (λ w. is_nonempty (places wanted w.words)) (λ w. is_owned names w.owner) found)
+    ∙ sym (any_same (λ w. is_nonempty (places_in w wanted)) (λ w. is_nonempty (places wanted w.words))
+    (λ w. nonempty-map (λ j. w.base + j) (places wanted w.words)) owned)
+    ∙ sym (nonempty-flat_map (λ w. places_in w wanted) owned)

@@ -1,19 +1,14 @@
--- Whether wanted words stand one after another somewhere.
-use Rattle.std.proofs.Common.{◌≡◌, ℕ, zero, suc, ◌+◌, ◌<◌, ◌&&◌, ◌||◌, Bool, true, false, cond, List, [], ◌∷◌, drop, filter}
-use Rattle.std.proofs.Common.{length, Option, None, refl, sym, ap, ◌∙◌, subst, eqb-true, arith}
+-- Where wanted words stand one after another.
+use Rattle.std.proofs.Common.{◌≡◌, ℕ, zero, suc, ◌+◌, ◌<◌, ◌||◌, Bool, true, false, cond, List, [], ◌∷◌, drop, filter}
+use Rattle.std.proofs.Common.{length, refl, sym, ap, ◌∙◌, subst, eqb-true, arith}
 use Rattle.std.proofs.lemmas.Bool.{false≢true}
 use Rattle.std.proofs.lemmas.List.Folds.{list_any_at}
 use Rattle.std.proofs.lemmas.List.FromFn.{get_or-range_with_len, length-range_with_len}
 use Rattle.std.specs.Prelude.{◌==◌}
 use Rattle.std.specs.List.{list_any, range_with_len, starts_with}
 use Rattle.std.specs.Str.{bytes_eq}
-use Rattle.doc_model.specs.declared.node.Node.{Node}
-use Rattle.doc_model.specs.declared.query.Case.{Case}
 use Rattle.doc_meaning.specs.Meaning.{is_nonempty}
-use Rattle.doc_meaning.specs.Strings.{is_blind, is_owned, places, starts_among, strings, words_seen}
-use Rattle.doc_meaning.proofs.AnyLemmas.{any_none, any_same}
-use Rattle.doc_filter.proofs.TextLemmas.{some_text_has_is}
-use Rattle.doc_filter.specs.Worded.{some_text_has, texts_under}
+use Rattle.doc_meaning.specs.Strings.{places}
 
 -- the wanted words stand from there on
 abbrev pub starts_at : List (List ℕ) → List (List ℕ) → ℕ → Bool
@@ -37,7 +32,7 @@ nonempty-filter p [] = refl
 nonempty-filter p (x ∷ xs) =
     nonempty-cond (p x) x (filter p xs) ∙ ap (λ b. p x || b) (nonempty-filter p xs)
 
-places_are : (wanted seen : List (List ℕ)) → 0 < length wanted →
+pub places_are : (wanted seen : List (List ℕ)) → 0 < length wanted →
     places wanted seen ≡ filter (starts_at wanted seen) (range_with_len 0 (length seen))
 places_are [] seen some = absurd (omega (arith, some))
 places_are (w ∷ ws) seen some = refl
@@ -56,26 +51,3 @@ stand_here wanted seen j some lt starts =
 pub stand_nowhere : (wanted seen : List (List ℕ)) → 0 < length wanted →
     filter (starts_at wanted seen) (range_with_len 0 (length seen)) ≡ [] → false ≡ is_nonempty (places wanted seen)
 stand_nowhere wanted seen some none = sym (ap is_nonempty (places_are wanted seen some ∙ none))
-
-and_false : (b : Bool) → (b && false) ≡ false
-and_false true = refl
-and_false false = refl
-
--- a text without words starts nowhere
-module _ (root : Node) (text : List ℕ) (case : Case) (names : Option (List (List ℕ))) (blind : Bool)
-    (wanted : List (List ℕ)) (blind_is : blind ≡ is_blind case text) (wanted_is : wanted ≡ words_seen blind text)
-    (none : wanted ≡ []) where
-  pub wordless_nowhere : false ≡ is_nonempty (starts_among (strings root) text case names)
-  wordless_nowhere =
-      sym (any_none (texts_under root None))
-      ∙ sym (any_same (λ s. is_owned names s.0 && is_nonempty (places [] (words_seen blind s.1))) (λ s. false)
-      (λ s. and_false (is_owned names s.0)) (texts_under root None))
-      ∙ ap (λ ws. some_text_has blind ws names (texts_under root None)) (sym none)
-      ∙ some_text_has_is root text case names blind wanted blind_is wanted_is
-
-  empty : (ns : List ℕ) → false ≡ is_nonempty ns → ns ≡ []
-  empty [] is = refl
-  empty (n ∷ ns) is = absurd (false≢true is)
-
-  pub wordless_starts : starts_among (strings root) text case names ≡ []
-  wordless_starts = empty (starts_among (strings root) text case names) wordless_nowhere

@@ -3,14 +3,13 @@ use Rattle.std.proofs.Common.{◌≡◌, ℕ, ◌+◌, ◌&&◌, ◌||◌, Bool,
 use Rattle.std.specs.List.{list_any}
 use Rattle.doc_model.specs.declared.node.Node.{Node}
 use Rattle.doc_model.specs.declared.node.Node.TheVariants as node
-use Rattle.doc_model.specs.declared.query.Case.{Case}
 use Rattle.doc_meaning.specs.Meaning.{is_nonempty}
-use Rattle.doc_meaning.specs.Strings.{Owner, is_blind, is_owned, places, starts_among, strings, with_bases, words_seen}
+use Rattle.doc_meaning.specs.Strings.{Owner, is_owned, places, strings, with_bases, words_seen}
 use Rattle.doc_meaning.specs.Words.{plain}
 use Rattle.doc_meaning.proofs.AnyLemmas.{any-flat_map, any-map}
-use Rattle.doc_filter.proofs.PhraseLemmas.{has_phrase_is}
+use Rattle.doc_filter.proofs.PhraseLemmas.{phrase_somewhere}
 use Rattle.doc_filter.proofs.WordedLemmas.{texts_items, texts_members}
-use Rattle.doc_filter.specs.Worded.{has_phrase, some_text_has, texts_under, worded, worded_strings}
+use Rattle.doc_filter.specs.Worded.{has_phrase, phrase_starts, some_text_has, texts_under, worded, worded_strings}
 
 -- a test of the owner and the text doesn't look at the base
 any-with_bases : (test : Owner → List ℕ → Bool) (texts : List (Owner × List ℕ)) (base : ℕ) →
@@ -44,12 +43,8 @@ module _ (blind : Bool) (wanted : List (List ℕ)) (names : Option (List (List �
       ∙ any-with_bases (λ owner text. is_owned names owner && is_nonempty (places wanted (words_seen blind text)))
       (texts_under root None) 0
 
--- whether a text starts somewhere in a tree
-pub some_text_has_is : (root : Node) (text : List ℕ) (case : Case) (names : Option (List (List ℕ))) (blind : Bool)
-    (wanted : List (List ℕ)) → blind ≡ is_blind case text → wanted ≡ words_seen blind text →
-    some_text_has blind wanted names (texts_under root None) ≡ is_nonempty (starts_among (strings root) text case names)
-some_text_has_is root text case names blind wanted blind_is wanted_is =
-    ap (λ ws. some_text_has blind ws names (texts_under root None)) wanted_is
-    ∙ ap (λ b. some_text_has b (words_seen b text) names (texts_under root None)) blind_is
-    ∙ sym (phrase_in_texts (is_blind case text) (words_seen (is_blind case text) text) names root)
-    ∙ has_phrase_is (strings root) text case names
+  -- whether they start somewhere there
+  pub text_somewhere : (root : Node) →
+      some_text_has blind wanted names (texts_under root None)
+      ≡ is_nonempty (phrase_starts (worded_strings blind root) wanted names)
+  text_somewhere root = sym (phrase_in_texts root) ∙ phrase_somewhere (worded_strings blind root) wanted names

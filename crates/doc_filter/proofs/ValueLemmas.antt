@@ -1,147 +1,131 @@
--- Scalars of the named properties, down a tree and among its strings.
-use Rattle.std.proofs.Common.{◌≡◌, ℕ, ◌+◌, ◌&&◌, ◌||◌, Bool, true, false, List, [], ◌∷◌, map, filter, length}
-use Rattle.std.proofs.Common.{Some, refl, sym, ap, ◌∙◌, ℤ}
+-- Values of a query in the forms in which they are compared.
+use Rattle.std.proofs.Common.{◌≡◌, ℕ, ℤ, ◌+◌, ◌<◌, ◌++◌, ◌||◌, Bool, true, false, List, [], ◌∷◌, length, get_or, take}
+use Rattle.std.proofs.Common.{refl, sym, ap, ◌∙◌}
+use Rattle.std.proofs.lemmas.List.Folds.{list_any-append, list_any_more}
 use Rattle.std.specs.Cmp.Lexicographic.{pointwise}
-use Rattle.std.specs.List.{filter_map, list_any}
+use Rattle.std.specs.List.{list_any}
 use Rattle.std.specs.Str.{bytes_eq}
-use Rattle.doc_model.specs.declared.node.Node.{Node}
-use Rattle.doc_model.specs.declared.node.Node.TheVariants as node
 use Rattle.doc_model.specs.declared.query.Case.{Case}
 use Rattle.doc_model.specs.declared.scalar.Scalar.{Scalar}
 use Rattle.doc_model.specs.declared.scalar.Scalar.TheVariants as scalar
-use Rattle.doc_meaning.specs.Meaning.{some_pair}
-use Rattle.doc_meaning.specs.Strings.{Owner, is_blind, is_owned, scalars, scalars_of, scalars_under, text_of}
-use Rattle.doc_meaning.specs.Strings.{with_bases, words_seen}
+use Rattle.doc_meaning.specs.Strings.{words_seen}
 use Rattle.doc_meaning.specs.Values.{scalar_equals}
-use Rattle.doc_meaning.specs.Words.{plain}
-use Rattle.doc_meaning.proofs.AnyLemmas.{any-filter, any-flat_map, any-map, any_none, any_same, any_swapped}
-use Rattle.plain_query.proofs.ScalarLemmas.{scalars_items, scalars_members}
-use Rattle.doc_filter.proofs.BoolLemmas.{same_truth}
-use Rattle.doc_filter.specs.Values.{equals, equals_unless_text, has_value, has_words, some_named, has_equal_text, words_stand}
-use Rattle.doc_filter.specs.Worded.{worded, worded_strings}
-
--- the values may be gone through first
-pair_swapped : (test : Scalar → Scalar → Bool) (found wanted : List Scalar) →
-    some_pair test found wanted ≡ list_any (has_value test found) wanted
-pair_swapped test found wanted =
-    same_truth _ _ (any_swapped test found wanted) (any_swapped (λ g v. test v g) wanted found)
+use Rattle.doc_filter.specs.declared.scalar_test.ScalarTest.TheVariants.{Equal}
+use Rattle.doc_filter.specs.declared.values.Values.{Values}
+use Rattle.doc_filter.specs.Phrases.{phrase_of}
+use Rattle.doc_filter.specs.Scalars.{AreValues, are_among, equals, equals_some_text, equals_text, passes}
+use Rattle.doc_filter.specs.Scalars.{with_phrase, with_scalar, with_value}
 
 or_false : (b : Bool) → b ≡ (b || false)
 or_false true = refl
 or_false false = refl
 
-or_swapped : (a b c d : Bool) → ((a || b) || (c || d)) ≡ ((a || c) || (b || d))
-or_swapped true b c d = refl
-or_swapped false true true d = refl
-or_swapped false true false d = refl
-or_swapped false false c d = refl
+or_last : (a w e : Bool) → ((a || e) || w) ≡ ((a || w) || e)
+or_last true w e = refl
+or_last false true true = refl
+or_last false true false = refl
+or_last false false true = refl
+or_last false false false = refl
 
-any_or : (p q : Scalar → Bool) (xs : List Scalar) → list_any (λ x. p x || q x) xs ≡ (list_any p xs || list_any q xs)
-any_or p q [] = refl
-any_or p q (x ∷ xs) =
-    ap (λ b. (p x || q x) || b) (any_or p q xs) ∙ or_swapped (p x) (q x) (list_any p xs) (list_any q xs)
+or_folded : (a p f x : Bool) → (a || (p || (f || x))) ≡ ((a || (p || f)) || x)
+or_folded true p f x = refl
+or_folded false true f x = refl
+or_folded false false f x = refl
+
+or_plain : (a p f x : Bool) → (a || ((p || x) || f)) ≡ ((a || (p || f)) || x)
+or_plain true p f x = refl
+or_plain false p f x = or_last p f x
+
+any_push : {A : Type 0} (p : A → Bool) (xs : List A) (x : A) → list_any p (xs ++ x ∷ []) ≡ (list_any p xs || p x)
+any_push p xs x = list_any-append p xs (x ∷ []) ∙ ap (λ b. list_any p xs || b) (sym (or_false (p x)))
 
 -- case counts only where texts are compared by their words
-exact_same : (case : Case) (v g : Scalar) → scalar_equals case true v g ≡ equals v g
+exact_same : (case : Case) (v g : Scalar) → equals v g ≡ scalar_equals case true v g
 exact_same case scalar.Null scalar.Null = refl
 exact_same case (scalar.Bool a) (scalar.Bool b) = refl
 exact_same case (scalar.Num a) (scalar.Num b) = refl
 exact_same case (scalar.Text a) (scalar.Text b) = refl
 exact_same case v g = refl
 
-null_same : (case : Case) (v : Scalar) → scalar_equals case false v scalar.Null ≡ equals_unless_text v scalar.Null
+null_same : (case : Case) (v : Scalar) → equals v scalar.Null ≡ scalar_equals case false v scalar.Null
 null_same case scalar.Null = refl
 null_same case v = refl
 
-bool_same : (case : Case) (b : Bool) (v : Scalar) →
-    scalar_equals case false v (scalar.Bool b) ≡ equals_unless_text v (scalar.Bool b)
+bool_same : (case : Case) (b : Bool) (v : Scalar) → equals v (scalar.Bool b) ≡ scalar_equals case false v (scalar.Bool b)
 bool_same case b (scalar.Bool a) = refl
 bool_same case b v = refl
 
-num_same : (case : Case) (n : ℤ) (v : Scalar) →
-    scalar_equals case false v (scalar.Num n) ≡ equals_unless_text v (scalar.Num n)
+num_same : (case : Case) (n : ℤ) (v : Scalar) → equals v (scalar.Num n) ≡ scalar_equals case false v (scalar.Num n)
 num_same case n (scalar.Num m) = refl
 num_same case n v = refl
 
-module _ (case : Case) (found : List Scalar) where
-  -- texts that are compared as strings
-  pub exact_pair : (wanted : List Scalar) → some_pair (scalar_equals case true) found wanted ≡ some_pair equals found wanted
-  exact_pair wanted =
-      any_same (λ v. list_any (scalar_equals case true v) wanted) (λ v. list_any (equals v) wanted)
-      (λ v. any_same (scalar_equals case true v) (equals v) (exact_same case v) wanted) found
+-- a value that is compared by type and value
+scalar_adds : (values : Values) (g v : Scalar) →
+    passes (Equal (with_scalar values g)) v ≡ (passes (Equal values) v || equals v g)
+scalar_adds values g scalar.Null = any_push (equals scalar.Null) values.scalars g
+scalar_adds values g (scalar.Bool b) = any_push (equals (scalar.Bool b)) values.scalars g
+scalar_adds values g (scalar.Num n) = any_push (equals (scalar.Num n)) values.scalars g
+scalar_adds values g (scalar.Text t) =
+    let by_words : Bool =
+    are_among values.plain (words_seen false t) || are_among values.folded (words_seen true t) in
+    ap (λ b. b || by_words) (any_push (equals_text t) values.scalars g)
+    ∙ or_last (list_any (equals_text t) values.scalars) by_words (equals_text t g)
 
-  other_value : (g : Scalar) →
-      ((v : Scalar) → scalar_equals case false v g ≡ equals_unless_text v g) →
-      has_value (scalar_equals case false) found g ≡ (has_value equals_unless_text found g || false)
-  other_value g same =
-      any_same (λ v. scalar_equals case false v g) (λ v. equals_unless_text v g) same found
-      ∙ or_false (has_value equals_unless_text found g)
+module _ (values : Values) (words : List (List ℕ)) where
+  abbrev one_form : Bool → Values
+  one_form blind = with_phrase values (record { blind = blind; words = words })
 
-  value_by_form : (g : Scalar) →
-      has_value (scalar_equals case false) found g ≡ (has_value equals_unless_text found g || words_stand case found g)
-  value_by_form scalar.Null = other_value scalar.Null (null_same case)
-  value_by_form (scalar.Bool b) = other_value (scalar.Bool b) (bool_same case b)
-  value_by_form (scalar.Num n) = other_value (scalar.Num n) (num_same case n)
-  value_by_form (scalar.Text t) = ap (λ b. b || has_equal_text case found t) (sym (any_none found))
+  words_add : (blind : Bool) (t : List ℕ) →
+      equals_some_text (one_form blind) t
+      ≡ (equals_some_text values t || pointwise bytes_eq (words_seen blind t) words)
+  words_add true t =
+      ap (λ b. list_any (equals_text t) values.scalars || (are_among values.plain (words_seen false t) || b))
+      (any_push (λ ws. pointwise bytes_eq (words_seen true t) ws) values.folded words)
+      ∙ or_folded (list_any (equals_text t) values.scalars) (are_among values.plain (words_seen false t))
+      (are_among values.folded (words_seen true t)) (pointwise bytes_eq (words_seen true t) words)
+  words_add false t =
+      ap (λ b. list_any (equals_text t) values.scalars || (b || are_among values.folded (words_seen true t)))
+      (any_push (λ ws. pointwise bytes_eq (words_seen false t) ws) values.plain words)
+      ∙ or_plain (list_any (equals_text t) values.scalars) (are_among values.plain (words_seen false t))
+      (are_among values.folded (words_seen true t)) (pointwise bytes_eq (words_seen false t) words)
 
-  -- a text of a query equals by its words, and every other value as it is
-  pub alike_by_form : (wanted : List Scalar) →
-      some_pair (scalar_equals case false) found wanted
-      ≡ (some_pair equals_unless_text found wanted || list_any (words_stand case found) wanted)
-  alike_by_form wanted =
-      pair_swapped (scalar_equals case false) found wanted
-      ∙ any_same (has_value (scalar_equals case false) found)
-      (λ g. has_value equals_unless_text found g || words_stand case found g) value_by_form wanted
-      ∙ any_or (has_value equals_unless_text found) (words_stand case found) wanted
-      ∙ ap (λ b. b || list_any (words_stand case found) wanted) (sym (pair_swapped equals_unless_text found wanted))
+  scalars_stay : (test : Scalar → Bool) (blind : Bool) →
+      list_any test (one_form blind).scalars ≡ (list_any test values.scalars || false)
+  scalars_stay test true = or_false (list_any test values.scalars)
+  scalars_stay test false = or_false (list_any test values.scalars)
 
--- of the named properties, before the others are left out
-any_named : (test : Scalar → Bool) (names : List (List ℕ)) (root : Node) →
-    list_any test (scalars_of names root) ≡ some_named names test (scalars root)
-any_named test names root =
-    any-map test (λ s. s.1) (filter (λ s. is_owned (Some names) s.0) (scalars root))
-    ∙ any-filter (λ s. test s.1) (λ s. is_owned (Some names) s.0) (scalars root)
+phrase_adds : (case : Case) (values : Values) (text : List ℕ) (v : Scalar) →
+    passes (Equal (with_phrase values (phrase_of case text))) v
+    ≡ (passes (Equal values) v || scalar_equals case false v (scalar.Text text))
+phrase_adds case values text scalar.Null =
+    scalars_stay values (phrase_of case text).words (equals scalar.Null) (phrase_of case text).blind
+phrase_adds case values text (scalar.Bool b) =
+    scalars_stay values (phrase_of case text).words (equals (scalar.Bool b)) (phrase_of case text).blind
+phrase_adds case values text (scalar.Num n) =
+    scalars_stay values (phrase_of case text).words (equals (scalar.Num n)) (phrase_of case text).blind
+phrase_adds case values text (scalar.Text t) =
+    words_add values (phrase_of case text).words (phrase_of case text).blind t
 
-pub pair_named : (test : Scalar → Scalar → Bool) (names : List (List ℕ)) (root : Node) (wanted : List Scalar) →
-    some_pair test (scalars_of names root) wanted ≡ some_named names (λ v. list_any (test v) wanted) (scalars root)
-pair_named test names root wanted = any_named (λ v. list_any (test v) wanted) names root
+-- one more value is equalled too
+value_adds : (case : Case) (exact : Bool) (values : Values) (g v : Scalar) →
+    passes (Equal (with_value case exact values g)) v ≡ (passes (Equal values) v || scalar_equals case exact v g)
+value_adds case true values g v =
+    scalar_adds values g v ∙ ap (λ b. passes (Equal values) v || b) (exact_same case v g)
+value_adds case false values scalar.Null v =
+    scalar_adds values scalar.Null v ∙ ap (λ b. passes (Equal values) v || b) (null_same case v)
+value_adds case false values (scalar.Bool b) v =
+    scalar_adds values (scalar.Bool b) v ∙ ap (λ b. passes (Equal values) v || b) (bool_same case b v)
+value_adds case false values (scalar.Num n) v =
+    scalar_adds values (scalar.Num n) v ∙ ap (λ b. passes (Equal values) v || b) (num_same case n v)
+value_adds case false values (scalar.Text text) v = phrase_adds case values text v
 
-module _ (names : List (List ℕ)) (test : Scalar → Bool) where
-  pub named_items : (n : Node) (items : List Node) (owner : Owner) → n ≡ node.Items items →
-      some_named names test (scalars_under n owner)
-      ≡ list_any (λ item. some_named names test (scalars_under item owner)) items
-  named_items n items owner is =
-      ap (some_named names test) (scalars_items n items owner is)
-      ∙ any-flat_map (λ s. is_owned (Some names) s.0 && test s.1) (λ item. scalars_under item owner) items
-
-  pub named_members : (n : Node) (members : List (List ℕ × Node)) (owner : Owner) → n ≡ node.Members members →
-      some_named names test (scalars_under n owner)
-      ≡ list_any (λ member. some_named names test (scalars_under member.1 (Some member.0))) members
-  named_members n members owner is =
-      ap (some_named names test) (scalars_members n members owner is)
-      ∙ any-flat_map (λ s. is_owned (Some names) s.0 && test s.1)
-      (λ member. scalars_under member.1 (Some member.0)) members
-
-left_out : (b c : Bool) → ((b && false) || c) ≡ c
-left_out true c = refl
-left_out false c = refl
-
-module _ (case : Case) (names : List (List ℕ)) (text : List ℕ) where
-  by_words : (found : List (Owner × Scalar)) (base : ℕ) →
-      has_words names (words_seen (is_blind case text) text)
-      (map (worded (is_blind case text)) (with_bases base (filter_map text_of found)))
-      ≡ some_named names (λ v. scalar_equals case false v (scalar.Text text)) found
-  by_words [] base = refl
-  by_words ((owner, scalar.Null) ∷ found) base = by_words found base ∙ sym (left_out (is_owned (Some names) owner) _)
-  by_words ((owner, scalar.Bool b) ∷ found) base = by_words found base ∙ sym (left_out (is_owned (Some names) owner) _)
-  by_words ((owner, scalar.Num n) ∷ found) base = by_words found base ∙ sym (left_out (is_owned (Some names) owner) _)
-  by_words ((owner, scalar.Text t) ∷ found) base =
-      let same : Bool = pointwise bytes_eq (words_seen (is_blind case text) t) (words_seen (is_blind case text) text) in
-      ap (λ b. (is_owned (Some names) owner && same) || b) (by_words found (base + length (plain t)))
-
-  -- a text of the same words is a string of the same words
-  pub equal_text_by_words : (root : Node) →
-      has_words names (words_seen (is_blind case text) text) (worded_strings (is_blind case text) root)
-      ≡ has_equal_text case (scalars_of names root) text
-  equal_text_by_words root =
-      by_words (scalars root) 0 ∙ sym (any_named (λ v. scalar_equals case false v (scalar.Text text)) names root)
+-- a step of a loop that adds one value after another
+pub values_more : (made grown : Values) (case : Case) (exact : Bool) (values : List Scalar) (i : ℕ) (g : Scalar) →
+    i < length values → g ≡ get_or values i g → grown ≡ with_value case exact made g →
+    AreValues made case exact (take i values) → AreValues grown case exact (take (i + 1) values)
+values_more made grown case exact values i g lt is added held v =
+    ap (λ vs. passes (Equal vs) v) added
+    ∙ value_adds case exact made g v
+    ∙ ap (λ b. b || scalar_equals case exact v g) (held v)
+    ∙ ap (λ x. list_any (scalar_equals case exact v) (take i values) || scalar_equals case exact v x) is
+    ∙ sym (list_any_more (scalar_equals case exact v) values i g lt)

@@ -9,8 +9,8 @@ use Rattle.doc_model.specs.declared.node.Node.{Node}
 use Rattle.doc_model.specs.declared.node.Node.TheVariants as node
 use Rattle.doc_meaning.specs.Strings.{Owner, scalars_under, text_of, words_seen}
 use Rattle.doc_meaning.specs.Words.{plain}
-use Rattle.plain_query.proofs.PlaceLemmas.{length-words_seen}
-use Rattle.plain_query.proofs.ScalarLemmas.{scalars_items, scalars_members}
+use Rattle.doc_meaning.proofs.PlaceLemmas.{length-words_seen}
+use Rattle.doc_meaning.proofs.ScalarLemmas.{scalars_items, scalars_members}
 use Rattle.doc_filter.specs.declared.worded_string.WordedString.{WordedString}
 use Rattle.doc_filter.specs.Worded.{texts_of_items, texts_of_members, texts_under, word_count, worded, worded_from}
 

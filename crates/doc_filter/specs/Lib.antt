@@ -1,4 +1,7 @@
+pub mod Conditions
+pub mod Filters
 pub mod Found
-pub mod Values
+pub mod Phrases
+pub mod Scalars
 pub mod Windows
 pub mod Worded

@@ -45,7 +45,7 @@ impl DocumentWords {
     }
 
     /// Finds the words in one of the two forms, unless that is done already.
-    #[tactic(auto, using(crate::proofs::FoundLemmas::are_numbered, plain_query::proofs::FitLemmas::document_fits))]
+    #[tactic(auto, using(crate::proofs::FoundLemmas::are_numbered, doc_meaning::proofs::FitLemmas::document_fits))]
     pub fn find(
         &mut self,
         alloc: Global,

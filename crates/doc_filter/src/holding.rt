@@ -1,64 +1,77 @@
 ghost use Rattle.std.specs.Prelude.{◌≡◌, IfOk, OnOk};
 ghost use Rattle.std.specs.List.{list_any, list_all};
+ghost use Rattle.doc_filter.specs.Conditions.{is_met};
 ghost use Rattle.doc_filter.specs.Found.{AreOf};
-ghost use Rattle.doc_meaning.specs.Meaning.{sat};
 
+use crate::collections::have_common;
+use crate::condition::{Condition, Conditions};
+use crate::directories::is_in_some_directory;
 use crate::document_words::DocumentWords;
-use crate::leaves::leaf_holds;
+use crate::owners::is_among;
+use crate::scalar_walk::has_scalar;
 use crate::starting::near_holds;
-use crate::text_queries::some_text_stands;
-use doc_model::{Document, Queries, Query};
+use crate::text_queries::some_phrase_stands;
+use doc_model::Document;
 use std::alloc::{AllocError, Global};
 
-/// Whether a document satisfies a query, with its words as far as they are found.
+/// Whether a document meets a condition, with its words as far as they are found.
 #[cycle(holds)]
 pub fn holds(
     alloc: Global,
-    query: &Query,
+    condition: &Condition,
     document: &Document,
     words: &mut DocumentWords,
 ) -> Result<bool, AllocError>
     requires { AreOf words.old document.now.root }
-    ensures answer { IfOk result (λ b. b ≡ sat query.now document.now) }
+    ensures answer { IfOk result (λ b. b ≡ is_met condition.now document.now) }
     ensures kept { OnOk result (AreOf words.new document.now.root) }
 {
-    match query {
-        Query::And(queries) => all_hold(alloc, queries, document, words),
-        Query::Or(queries) => some_holds(alloc, queries, document, words),
-        Query::Not(query) => Ok(!holds(alloc, query.get(), document, words)?),
-        Query::AndNot { positive, negative } => {
+    match condition {
+        Condition::True => Ok(true),
+        Condition::False => Ok(false),
+        Condition::And(children) => all_hold(alloc, children, document, words),
+        Condition::Or(children) => some_holds(alloc, children, document, words),
+        Condition::Not(child) => Ok(!holds(alloc, child.get(), document, words)?),
+        Condition::AndNot { positive, negative } => {
             let positive = holds(alloc, positive.get(), document, words)?;
             Ok(positive && !holds(alloc, negative.get(), document, words)?)
         }
-        Query::Near {
-            queries,
+        Condition::Word { phrases } => {
+            some_phrase_stands(alloc, phrases.as_slice(), None, document, words)
+        }
+        Condition::PropWord { names, phrases } => {
+            let names = Some(names.as_slice());
+            some_phrase_stands(alloc, phrases.as_slice(), names, document, words)
+        }
+        Condition::Scalars { names, test } => {
+            has_scalar(alloc, document.root(), names.as_slice(), test)
+        }
+        Condition::Near {
+            children,
             distance,
             ordered,
-        } => near_holds(alloc, queries, *distance, *ordered, document, words),
-        Query::Word { texts, case } => {
-            some_text_stands(alloc, texts.as_slice(), *case, None, document, words)
+        } => near_holds(alloc, children, *distance, *ordered, document, words),
+        Condition::Collection(names) => Ok(have_common(document.collections(), names)),
+        Condition::Directory { uris, infinite } => {
+            Ok(is_in_some_directory(*infinite, document.uri().as_str(), uris.as_slice()))
         }
-        Query::PropWord { names, texts, case } => {
-            let names = Some(names.as_slice());
-            some_text_stands(alloc, texts.as_slice(), *case, names, document, words)
-        }
-        _ => leaf_holds(alloc, query, document, words),
+        Condition::DocUri(uris) => Ok(is_among(uris.as_slice(), document.uri().as_str())),
     }
 }
 
 #[cycle(holds)]
 fn all_hold(
     alloc: Global,
-    queries: &Queries,
+    children: &Conditions,
     document: &Document,
     words: &mut DocumentWords,
 ) -> Result<bool, AllocError>
     requires { AreOf words.old document.now.root }
-    ensures answer { IfOk result (λ b. b ≡ list_all (λ q. sat q document.now) queries.now) }
+    ensures answer { IfOk result (λ b. b ≡ list_all (λ c. is_met c document.now) children.now) }
     ensures kept { OnOk result (AreOf words.new document.now.root) }
 {
-    for query in queries.as_slice() {
-        if !holds(alloc, query, document, words)? {
+    for child in children.as_slice() {
+        if !holds(alloc, child, document, words)? {
             return Ok(false);
         }
     }
@@ -68,16 +81,16 @@ fn all_hold(
 #[cycle(holds)]
 fn some_holds(
     alloc: Global,
-    queries: &Queries,
+    children: &Conditions,
     document: &Document,
     words: &mut DocumentWords,
 ) -> Result<bool, AllocError>
     requires { AreOf words.old document.now.root }
-    ensures answer { IfOk result (λ b. b ≡ list_any (λ q. sat q document.now) queries.now) }
+    ensures answer { IfOk result (λ b. b ≡ list_any (λ c. is_met c document.now) children.now) }
     ensures kept { OnOk result (AreOf words.new document.now.root) }
 {
-    for query in queries.as_slice() {
-        if holds(alloc, query, document, words)? {
+    for child in children.as_slice() {
+        if holds(alloc, child, document, words)? {
             return Ok(true);
         }
     }

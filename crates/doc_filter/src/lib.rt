@@ -1,25 +1,33 @@
-//! Whether a document satisfies a query. The words of a document are found at most once in each of two forms, as they
-//! are written and case folded, and only where the query seeks more than one text.
+//! Whether a document satisfies a query. A filter holds the query with its texts cut into words and folded, and is asked
+//! of many documents. The words of a document are found at most once in each of two forms, as they are written and case
+//! folded, and only where the query seeks more than one text.
 #![tactic(auto)]
 
 mod bound;
+mod collections;
+mod comparing;
+mod condition;
+mod directories;
 mod document_words;
+mod filter;
 mod holding;
-mod leaves;
 mod matching;
 mod nearness;
 mod owners;
+mod phrase;
 mod phrases;
+mod preparing;
+mod scalar_test;
 mod scalar_walk;
 mod starting;
 mod text_queries;
 mod text_walk;
-mod value_test;
 mod values;
 mod windows;
 mod word_runs;
 mod worded_string;
 mod worded_strings;
 
+pub use filter::Filter;
 pub use matching::matches;
 pub use nearness::is_near;

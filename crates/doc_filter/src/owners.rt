@@ -6,7 +6,7 @@ ghost use Rattle.doc_model.specs.Tree.{is_among};
 use doc_model::Text;
 
 /// Whether a name is one of the names.
-fn is_among(names: &[Text], name: &str) -> bool
+pub fn is_among(names: &[Text], name: &str) -> bool
     ensures { result ≡ is_among names.now name.now }
 {
     names.iter().any(|other| name == other.as_str())

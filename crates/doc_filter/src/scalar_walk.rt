@@ -1,75 +1,102 @@
-ghost use Rattle.std.specs.Prelude.{◌≡◌, Some};
+ghost use Rattle.std.specs.Prelude.{◌≡◌, ◌&&◌, IfOk, Some};
 ghost use Rattle.std.specs.List.{list_any};
 ghost use Rattle.std.specs.Option.{option_copied};
-ghost use Rattle.doc_filter.specs.Values.{passes, some_named};
-ghost use Rattle.doc_meaning.specs.Meaning.{some_pair};
-ghost use Rattle.doc_meaning.specs.Strings.{scalars_of, scalars_under};
+ghost use Rattle.doc_filter.specs.Scalars.{passes, passes_text, some_named};
+ghost use Rattle.doc_meaning.specs.Strings.{is_owned, scalars, scalars_under};
 
 use crate::owners::is_owned;
-use crate::value_test::ValueTest;
+use crate::scalar_test::ScalarTest;
 use doc_model::{Members, Node, Nodes, Scalar, Text};
+use std::alloc::{AllocError, Global};
 
-/// Whether some scalar of the named properties passes against some of the values.
+/// Whether some scalar of the named properties passes.
 ///
-/// It goes once down the tree and copies nothing, compares each scalar with the names and those of the named
-/// properties with the values, and stops at the first that passes.
-pub fn has_scalar(root: &Node, names: &[Text], test: ValueTest, wanted: &[Scalar]) -> bool
-    ensures { result ≡ some_pair (passes test) (scalars_of names.now root.now) wanted.now }
+/// It goes once down the tree, compares each scalar with the names and those of the named properties with the values,
+/// and stops at the first that passes.
+pub fn has_scalar(
+    alloc: Global,
+    root: &Node,
+    names: &[Text],
+    test: &ScalarTest,
+) -> Result<bool, AllocError>
+    ensures { IfOk result (λ b. b ≡ some_named names.now (passes test.now) (scalars root.now)) }
 {
-    some_passes(root, None, names, test, wanted)
+    some_passes(alloc, root, None, names, test)
 }
 
 /// The same of a node that has this owner.
 #[cycle(scalars)]
 fn some_passes(
+    alloc: Global,
     node: &Node,
     owner: Option<&Text>,
     names: &[Text],
-    test: ValueTest,
-    wanted: &[Scalar],
-) -> bool
+    test: &ScalarTest,
+) -> Result<bool, AllocError>
     ensures { let found = scalars_under node.now (option_copied owner.entry) in
-        result ≡ some_named names.now (λ v. list_any (passes test v) wanted.now) found }
+        IfOk result (λ b. b ≡ some_named names.now (passes test.now) found) }
 {
     match node {
-        Node::Null => is_owned(Some(names), owner) && test.passes_some(&Scalar::Null, wanted),
-        Node::Bool(b) => is_owned(Some(names), owner)
-            && test.passes_some(&Scalar::Bool(*b), wanted),
-        Node::Num(n) => is_owned(Some(names), owner) && test.passes_some(&Scalar::Num(*n), wanted),
-        Node::Text(text) => is_owned(Some(names), owner) && test.text_passes_some(text, wanted),
-        Node::Items(items) => some_item_passes(items, owner, names, test, wanted),
-        Node::Members(members) => some_member_passes(members, names, test, wanted),
+        Node::Null => Ok(is_owned(Some(names), owner) && test.passes(&Scalar::Null)),
+        Node::Bool(b) => Ok(is_owned(Some(names), owner) && test.passes(&Scalar::Bool(*b))),
+        Node::Num(n) => Ok(is_owned(Some(names), owner) && test.passes(&Scalar::Num(*n))),
+        Node::Text(text) => owned_text_passes(alloc, text, owner, names, test),
+        Node::Items(items) => some_item_passes(alloc, items, owner, names, test),
+        Node::Members(members) => some_member_passes(alloc, members, names, test),
     }
+}
+
+fn owned_text_passes(
+    alloc: Global,
+    text: &Text,
+    owner: Option<&Text>,
+    names: &[Text],
+    test: &ScalarTest,
+) -> Result<bool, AllocError>
+    ensures { let owned = is_owned (Some names.now) (option_copied owner.entry) in
+        IfOk result (λ b. b ≡ (owned && passes_text test.now text.now)) }
+{
+    if !is_owned(Some(names), owner) {
+        return Ok(false);
+    }
+    test.passes_text(alloc, text)
 }
 
 #[cycle(scalars)]
 fn some_item_passes(
+    alloc: Global,
     items: &Nodes,
     owner: Option<&Text>,
     names: &[Text],
-    test: ValueTest,
-    wanted: &[Scalar],
-) -> bool
-    ensures { let passes_in = some_named names.now (λ v. list_any (passes test v) wanted.now) in
-        result ≡ list_any (λ item. passes_in (scalars_under item (option_copied owner.entry))) items.now }
+    test: &ScalarTest,
+) -> Result<bool, AllocError>
+    ensures { let has = some_named names.now (passes test.now) in
+        let found = list_any (λ item. has (scalars_under item (option_copied owner.entry))) items.now in
+        IfOk result (λ b. b ≡ found) }
 {
     for item in items.as_slice() {
-        if some_passes(item, owner, names, test, wanted) {
-            return true;
+        if some_passes(alloc, item, owner, names, test)? {
+            return Ok(true);
         }
     }
-    false
+    Ok(false)
 }
 
 #[cycle(scalars)]
-fn some_member_passes(members: &Members, names: &[Text], test: ValueTest, wanted: &[Scalar]) -> bool
-    ensures { let passes_in = some_named names.now (λ v. list_any (passes test v) wanted.now) in
-        result ≡ list_any (λ member. passes_in (scalars_under member.1 (Some member.0))) members.now }
+fn some_member_passes(
+    alloc: Global,
+    members: &Members,
+    names: &[Text],
+    test: &ScalarTest,
+) -> Result<bool, AllocError>
+    ensures { let has = some_named names.now (passes test.now) in
+        let found = list_any (λ member. has (scalars_under member.1 (Some member.0))) members.now in
+        IfOk result (λ b. b ≡ found) }
 {
     for member in members.as_slice() {
-        if some_passes(&member.1, Some(&member.0), names, test, wanted) {
-            return true;
+        if some_passes(alloc, &member.1, Some(&member.0), names, test)? {
+            return Ok(true);
         }
     }
-    false
+    Ok(false)
 }

@@ -1,106 +1,100 @@
 ghost use Rattle.std.specs.Prelude.{◌≡◌, ◌++◌, IfOk, OnOk};
 ghost use Rattle.std.specs.Option.{option_copied};
+ghost use Rattle.doc_filter.specs.Conditions.{starts_of, starts_of_some};
 ghost use Rattle.doc_filter.specs.Found.{AreOf};
-ghost use Rattle.doc_meaning.specs.Meaning.{is_nonempty, word_starts};
-ghost use Rattle.doc_meaning.specs.Strings.{starts_among, strings};
+ghost use Rattle.doc_meaning.specs.Meaning.{is_nonempty};
 
 use crate::document_words::DocumentWords;
+use crate::phrase::Phrase;
 use crate::phrases::{add_phrase_starts, has_phrase};
 use crate::text_walk::some_text_has;
-use doc_model::{Case, Document, Text};
-use plain_query::{is_blind, words_seen};
+use doc_model::{Document, Text};
 use sqlite_items::Items;
 use std::alloc::{AllocError, Global};
 
-/// Whether some of the texts stands in a string of the named properties, or in any.
-pub fn some_text_stands(
+/// Whether some of the phrases stands in a string of the named properties, or in any.
+pub fn some_phrase_stands(
     alloc: Global,
-    texts: &[Text],
-    case: Case,
+    phrases: &[Phrase],
     names: Option<&[Text]>,
     document: &Document,
     words: &mut DocumentWords,
 ) -> Result<bool, AllocError>
     requires { AreOf words.old document.now.root }
-    ensures answer { let found = strings document.now.root in
-        IfOk result (λ b. b ≡ is_nonempty (word_starts found texts.now case (option_copied names.entry))) }
+    ensures answer { let starts = starts_of_some document.now.root (option_copied names.entry) phrases.now in
+        IfOk result (λ b. b ≡ is_nonempty starts) }
     ensures kept { OnOk result (AreOf words.new document.now.root) }
 {
-    for text in texts {
-        if text_stands(alloc, text.as_str(), case, names, document, words)? {
+    for phrase in phrases {
+        if phrase_stands(alloc, phrase, names, document, words)? {
             return Ok(true);
         }
     }
     Ok(false)
 }
 
-/// Whether one of them does. The first text is sought in the tree itself, so that a query of one text finds no words
-/// that it doesn't look at. From the second on the words of the document are found, and serve all others.
-fn text_stands(
+/// Whether one of them does. The first is sought in the tree itself, so that a query of one text finds no words that it
+/// doesn't look at. From the second on the words of the document are found, and serve all others.
+fn phrase_stands(
     alloc: Global,
-    text: &str,
-    case: Case,
+    phrase: &Phrase,
     names: Option<&[Text]>,
     document: &Document,
     words: &mut DocumentWords,
 ) -> Result<bool, AllocError>
     requires { AreOf words.old document.now.root }
-    ensures answer { let found = strings document.now.root in
-        IfOk result (λ b. b ≡ is_nonempty (starts_among found text.now case (option_copied names.entry))) }
+    ensures answer { let starts = starts_of document.now.root (option_copied names.entry) phrase.now in
+        IfOk result (λ b. b ≡ is_nonempty starts) }
     ensures kept { OnOk result (AreOf words.new document.now.root) }
 {
-    let blind = is_blind(case, text);
-    let wanted = words_seen(alloc, blind, text)?;
-    if wanted.as_slice().is_empty() {
+    let wanted = phrase.words.as_slice();
+    if wanted.is_empty() {
         return Ok(false);
     }
     if words.begins() {
-        return some_text_has(alloc, document.root(), blind, wanted.as_slice(), names);
+        return some_text_has(alloc, document.root(), phrase.blind, wanted, names);
     }
-    words.find(alloc, blind, document)?;
-    Ok(has_phrase(words.get(blind), wanted.as_slice(), names))
+    words.find(alloc, phrase.blind, document)?;
+    Ok(has_phrase(words.get(phrase.blind), wanted, names))
 }
 
-/// Adds where the texts start in the strings of the named properties, or in all, as numbers of words.
-pub fn add_text_starts(
+/// Adds where the phrases start in the strings of the named properties, or in all, as numbers of words.
+pub fn add_starts_of_some(
     alloc: Global,
-    texts: &[Text],
-    case: Case,
+    phrases: &[Phrase],
     names: Option<&[Text]>,
     document: &Document,
     words: &mut DocumentWords,
     out: &mut Items<u64>,
 ) -> Result<(), AllocError>
     requires { AreOf words.old document.now.root }
-    ensures starts { let found = strings document.now.root in
-        OnOk result (out.new ≡ out.old ++ word_starts found texts.now case (option_copied names.entry)) }
+    ensures starts { let starts = starts_of_some document.now.root (option_copied names.entry) phrases.now in
+        OnOk result (out.new ≡ out.old ++ starts) }
     ensures kept { OnOk result (AreOf words.new document.now.root) }
 {
-    for text in texts {
-        add_starts_of(alloc, text.as_str(), case, names, document, words, out)?;
+    for phrase in phrases {
+        add_starts_of(alloc, phrase, names, document, words, out)?;
     }
     Ok(())
 }
 
 fn add_starts_of(
     alloc: Global,
-    text: &str,
-    case: Case,
+    phrase: &Phrase,
     names: Option<&[Text]>,
     document: &Document,
     words: &mut DocumentWords,
     out: &mut Items<u64>,
 ) -> Result<(), AllocError>
     requires { AreOf words.old document.now.root }
-    ensures starts { let found = strings document.now.root in
-        OnOk result (out.new ≡ out.old ++ starts_among found text.now case (option_copied names.entry)) }
+    ensures starts { let starts = starts_of document.now.root (option_copied names.entry) phrase.now in
+        OnOk result (out.new ≡ out.old ++ starts) }
     ensures kept { OnOk result (AreOf words.new document.now.root) }
 {
-    let blind = is_blind(case, text);
-    let wanted = words_seen(alloc, blind, text)?;
-    if wanted.as_slice().is_empty() {
+    let wanted = phrase.words.as_slice();
+    if wanted.is_empty() {
         return Ok(());
     }
-    words.find(alloc, blind, document)?;
-    add_phrase_starts(alloc, words.get(blind), wanted.as_slice(), names, out)
+    words.find(alloc, phrase.blind, document)?;
+    add_phrase_starts(words.get(phrase.blind), wanted, names, out)
 }

@@ -8,7 +8,7 @@ ghost use Rattle.doc_meaning.specs.Strings.{is_owned, places, words_seen};
 use crate::owners::is_owned;
 use crate::word_runs::stand_in;
 use doc_model::{Members, Node, Nodes, Text};
-use plain_query::words_seen;
+use doc_tokens::words_seen;
 use std::alloc::{AllocError, Global};
 
 /// Whether the words stand one after another in a text of these properties, or in any.

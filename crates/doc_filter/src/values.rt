@@ -1,141 +1,108 @@
-ghost use Rattle.std.specs.Prelude.{◌≡◌, ◌&&◌, IfOk, OnOk, Some, false};
-ghost use Rattle.std.specs.List.{list_any};
-ghost use Rattle.std.specs.Cmp.Lexicographic.{pointwise};
-ghost use Rattle.std.specs.Str.{bytes_eq};
-ghost use Rattle.doc_filter.specs.Found.{AreOf};
-ghost use Rattle.doc_filter.specs.Values.{has_words, has_equal_text, words_stand};
-ghost use Rattle.doc_meaning.specs.Meaning.{some_pair};
-ghost use Rattle.doc_meaning.specs.Strings.{scalars_of, is_owned};
-ghost use Rattle.doc_meaning.specs.Values.{scalar_equals, in_range};
+ghost use Rattle.std.specs.Prelude.{◌≡◌, [], IfOk, OnOk};
+ghost use Rattle.doc_filter.specs.Scalars.{AreValues, are_among, equals_some_text, with_phrase, with_value};
+ghost use Rattle.doc_meaning.specs.Strings.{words_seen};
 
-use crate::document_words::DocumentWords;
-use crate::owners::is_owned;
-use crate::scalar_walk::has_scalar;
-use crate::value_test::ValueTest;
-use crate::worded_string::WordedString;
-use doc_model::{Case, Compare, Document, Node, Scalar, Text};
-use plain_query::{is_blind, words_seen};
+use crate::comparing::text_equals_some;
+use crate::phrase::Phrase;
+use doc_model::{Case, Scalar, Scalars, Text, Texts};
+use doc_tokens::words_seen;
+use sqlite_items::Items;
 use std::alloc::{AllocError, Global};
 
-/// Whether some scalar of the named properties compares so with some of the values.
-pub fn some_in_range(root: &Node, names: &[Text], op: Compare, values: &[Scalar]) -> bool
-    ensures { result ≡ some_pair (in_range op) (scalars_of names.now root.now) values.now }
-{
-    has_scalar(root, names, ValueTest::Range(op), values)
+/// The values of a query, each in the form in which it is compared.
+#[derive(Debug, Drop)]
+pub struct Values {
+    /// Those that are compared by type and value, texts as strings.
+    pub scalars: Scalars,
+    /// The words of the texts whose words are compared as they are written.
+    pub plain: Items<Texts>,
+    /// The words, case folded, of the texts to which upper and lower case are alike.
+    pub folded: Items<Texts>,
 }
 
-/// Whether some scalar of the named properties equals some of the values.
-pub fn some_value_stands(
-    alloc: Global,
-    names: &[Text],
-    values: &[Scalar],
-    case: Case,
-    exact: bool,
-    document: &Document,
-    words: &mut DocumentWords,
-) -> Result<bool, AllocError>
-    requires { AreOf words.old document.now.root }
-    ensures answer { let found = scalars_of names.now document.now.root in
-        IfOk result (λ b. b ≡ some_pair (scalar_equals case exact) found values.now) }
-    ensures kept { OnOk result (AreOf words.new document.now.root) }
-{
-    if exact {
-        Ok(has_scalar(document.root(), names, ValueTest::Equal, values))
-    } else {
-        some_alike(alloc, names, values, case, document, words)
+impl Values {
+    /// Makes values ready to be compared. Texts are compared word by word unless `exact`.
+    pub fn new(
+        alloc: Global,
+        values: &[Scalar],
+        case: Case,
+        exact: bool,
+    ) -> Result<Values, AllocError>
+        ensures { IfOk result (λ made. AreValues made case exact values.now) }
+    {
+        let mut made = Values::none(alloc);
+        for value in values {
+            made.add(alloc, value, case, exact)?;
+        }
+        Ok(made)
     }
-}
 
-/// The same where texts are compared word by word. Only texts among the values look for words.
-fn some_alike(
-    alloc: Global,
-    names: &[Text],
-    values: &[Scalar],
-    case: Case,
-    document: &Document,
-    words: &mut DocumentWords,
-) -> Result<bool, AllocError>
-    requires { AreOf words.old document.now.root }
-    ensures answer { let found = scalars_of names.now document.now.root in
-        IfOk result (λ b. b ≡ some_pair (scalar_equals case false) found values.now) }
-    ensures kept { OnOk result (AreOf words.new document.now.root) }
-{
-    if has_scalar(document.root(), names, ValueTest::EqualUnlessText, values) {
-        return Ok(true);
-    }
-    some_words_stand(alloc, names, values, case, document, words)
-}
-
-/// Whether some text of the named properties has the words of some text among the values, and no others.
-fn some_words_stand(
-    alloc: Global,
-    names: &[Text],
-    values: &[Scalar],
-    case: Case,
-    document: &Document,
-    words: &mut DocumentWords,
-) -> Result<bool, AllocError>
-    requires { AreOf words.old document.now.root }
-    ensures answer { let found = scalars_of names.now document.now.root in
-        IfOk result (λ b. b ≡ list_any (words_stand case found) values.now) }
-    ensures kept { OnOk result (AreOf words.new document.now.root) }
-{
-    for value in values {
-        if words_stand(alloc, names, value, case, document, words)? {
-            return Ok(true);
+    fn none(alloc: Global) -> Values
+        ensures { result ≡ record { scalars = []; plain = []; folded = [] } }
+    {
+        Values {
+            scalars: Items::new(alloc),
+            plain: Items::new(alloc),
+            folded: Items::new(alloc),
         }
     }
-    Ok(false)
-}
 
-fn words_stand(
-    alloc: Global,
-    names: &[Text],
-    value: &Scalar,
-    case: Case,
-    document: &Document,
-    words: &mut DocumentWords,
-) -> Result<bool, AllocError>
-    requires { AreOf words.old document.now.root }
-    ensures answer { let found = scalars_of names.now document.now.root in
-        IfOk result (λ b. b ≡ words_stand case found value.now) }
-    ensures kept { OnOk result (AreOf words.new document.now.root) }
-{
-    match value {
-        Scalar::Text(text) => has_equal_text(alloc, names, text.as_str(), case, document, words),
-        _ => Ok(false),
+    /// Adds a value in the form in which it is compared.
+    fn add(
+        &mut self,
+        alloc: Global,
+        value: &Scalar,
+        case: Case,
+        exact: bool,
+    ) -> Result<(), AllocError>
+        ensures { OnOk result (self.new ≡ with_value case exact self.old value.now) }
+    {
+        if exact {
+            return self.scalars.push(value.copy(alloc)?);
+        }
+        match value {
+            Scalar::Text(text) => self.add_phrase(Phrase::new(alloc, text.as_str(), case)?),
+            _ => self.scalars.push(value.copy(alloc)?),
+        }
+    }
+
+    fn add_phrase(&mut self, phrase: Phrase) -> Result<(), AllocError>
+        ensures { OnOk result (self.new ≡ with_phrase self.old phrase) }
+    {
+        if phrase.blind {
+            self.folded.push(phrase.words)
+        } else {
+            self.plain.push(phrase.words)
+        }
+    }
+
+    /// Whether a text of a document equals some value. Its words are cut once in each form that a value has.
+    pub fn equal_text(&self, alloc: Global, found: &Text) -> Result<bool, AllocError>
+        ensures { IfOk result (λ b. b ≡ equals_some_text self.now found.now) }
+    {
+        if text_equals_some(found, self.scalars.as_slice()) {
+            return Ok(true);
+        }
+        if has_words(alloc, false, found.as_str(), self.plain.as_slice())? {
+            return Ok(true);
+        }
+        has_words(alloc, true, found.as_str(), self.folded.as_slice())
     }
 }
 
-/// Whether some text of the named properties has these words and no others.
-fn has_equal_text(
-    alloc: Global,
-    names: &[Text],
-    text: &str,
-    case: Case,
-    document: &Document,
-    words: &mut DocumentWords,
-) -> Result<bool, AllocError>
-    requires { AreOf words.old document.now.root }
-    ensures answer { let found = scalars_of names.now document.now.root in
-        IfOk result (λ b. b ≡ has_equal_text case found text.now) }
-    ensures kept { OnOk result (AreOf words.new document.now.root) }
+/// Whether a text has the words of some list, and no others.
+fn has_words(alloc: Global, blind: bool, text: &str, wanted: &[Texts]) -> Result<bool, AllocError>
+    ensures { IfOk result (λ b. b ≡ are_among wanted.now (words_seen blind text.now)) }
 {
-    let blind = is_blind(case, text);
-    let wanted = words_seen(alloc, blind, text)?;
-    words.find(alloc, blind, document)?;
-    Ok(has_words(words.get(blind), names, wanted.as_slice()))
+    if wanted.is_empty() {
+        return Ok(false);
+    }
+    let seen = words_seen(alloc, blind, text)?;
+    Ok(are_among(wanted, seen.as_slice()))
 }
 
-fn has_words(strings: &[WordedString], names: &[Text], wanted: &[Text]) -> bool
-    ensures { result ≡ has_words names.now wanted.now strings.now }
+fn are_among(wanted: &[Texts], seen: &[Text]) -> bool
+    ensures { result ≡ are_among wanted.now seen.now }
 {
-    strings.iter().any(|string| is_value(string, names, wanted))
-}
-
-fn is_value(string: &WordedString, names: &[Text], wanted: &[Text]) -> bool
-    ensures { let owned = is_owned (Some names.now) string.now.owner in
-        result ≡ (owned && pointwise bytes_eq string.now.words wanted.now) }
-{
-    string.words.as_slice() == wanted && is_owned(Some(names), string.owner.as_ref())
+    wanted.iter().any(|words| seen == words.as_slice())
 }

@@ -7,14 +7,14 @@ ghost use Rattle.doc_model.specs.Tree.{size};
 
 use crate::worded_string::WordedString;
 use doc_model::{Members, Node, Nodes, Text};
-use plain_query::words_seen;
+use doc_tokens::words_seen;
 use sqlite_items::Items;
 use std::alloc::{AllocError, Global};
 
 /// The text values of a tree in document order, each by its words, case folded or as they are written.
 ///
 /// It copies each word once, or folds it once, and each owner once for each of its texts.
-#[tactic(auto, using(plain_query::proofs::FitLemmas::texts_fit))]
+#[tactic(auto, using(doc_meaning::proofs::FitLemmas::texts_fit))]
 pub fn worded_strings(
     alloc: Global,
     blind: bool,

@@ -4,10 +4,14 @@ pub mod CommitLemmas
 pub mod DistinctLemmas
 pub mod EntryLemmas
 pub mod EstimateLemmas
+pub mod FitLemmas
 pub mod HistoryLemmas
+pub mod MapLemmas
 pub mod MeaningLemmas
 pub mod NearLemmas
+pub mod PlaceLemmas
 pub mod RisingLemmas
+pub mod ScalarLemmas
 pub mod ShownLemmas
 pub mod SortedLemmas
 pub mod StandLemmas

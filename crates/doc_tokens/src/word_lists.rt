@@ -1,4 +1,5 @@
 ghost use Rattle.std.specs.Prelude.{◌≡◌, IfOk};
+ghost use Rattle.doc_meaning.specs.Strings.{words_seen};
 ghost use Rattle.doc_meaning.specs.Words.{plain, folded};
 
 use crate::{fold, words};
@@ -28,4 +29,15 @@ pub fn folded_words(alloc: Global, text: &str) -> Result<Texts, AllocError>
         out.push(fold(alloc, &text[span.0..span.1])?)?;
     }
     Ok(out)
+}
+
+/// The words of a text in the form in which they are compared: case folded where case is alike, else as they are written.
+pub fn words_seen(alloc: Global, blind: bool, text: &str) -> Result<Texts, AllocError>
+    ensures { IfOk result (λ ws. ws ≡ words_seen blind text.now) }
+{
+    if blind {
+        folded_words(alloc, text)
+    } else {
+        plain_words(alloc, text)
+    }
 }

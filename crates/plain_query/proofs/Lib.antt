@@ -1,4 +1,1 @@
-pub mod FitLemmas
 pub mod NearLemmas
-pub mod PlaceLemmas
-pub mod ScalarLemmas

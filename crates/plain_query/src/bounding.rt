@@ -126,7 +126,7 @@ fn any_maybe(all: &[Bounds]) -> bool
     all.iter().any(|b| b.maybe)
 }
 
-#[tactic(auto, using(crate::proofs::FitLemmas::document_fits))]
+#[tactic(auto, using(doc_meaning::proofs::FitLemmas::document_fits))]
 fn word_query_bounds(
     alloc: Global,
     document: &Document,
@@ -143,7 +143,7 @@ fn word_query_bounds(
     Ok(any_of(out.as_slice()))
 }
 
-#[tactic(auto, using(crate::proofs::FitLemmas::document_fits))]
+#[tactic(auto, using(doc_meaning::proofs::FitLemmas::document_fits))]
 fn prop_word_query_bounds(
     alloc: Global,
     document: &Document,

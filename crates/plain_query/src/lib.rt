@@ -1,6 +1,5 @@
 //! Whether a document satisfies a query, and the two tests of a query, computed as they are defined: slowly, and
-//! plain to read. Tests compare every faster way with it, and a faster way runs those pieces of it that it couldn't
-//! make faster.
+//! plain to read. Tests compare every faster way with it, and no faster way stands on it.
 #![tactic(auto)]
 
 mod blindness;

@@ -123,7 +123,7 @@ fn starts_of(alloc: Global, meanings: &[Meaning]) -> Result<Items<Items<u64>>, A
 }
 
 /// What a query for some of the texts says, in the named properties or in all.
-#[tactic(auto, using(crate::proofs::FitLemmas::document_fits))]
+#[tactic(auto, using(doc_meaning::proofs::FitLemmas::document_fits))]
 fn word_meaning(
     alloc: Global,
     document: &Document,

@@ -1,2 +1,2 @@
 -- The words of a document can be numbered.
-pub use Rattle.plain_query.proofs.FitLemmas.{document_fits}
+pub use Rattle.doc_meaning.proofs.FitLemmas.{document_fits}

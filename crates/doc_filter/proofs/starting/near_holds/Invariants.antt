@@ -1,10 +1,10 @@
 use Rattle.std.proofs.Common.{◌≡◌, map, take}
+use Rattle.doc_filter.specs.Conditions.{condition_meaning}
 use Rattle.doc_filter.specs.Found.{AreOf}
-use Rattle.doc_meaning.specs.Meaning.{meaning}
 use Rattle.doc_filter.proofs.starting.near_holds.Given as goal
 
-abbrev pub invariant-loop-query : goal.invariant-loop-query
-invariant-loop-query l = record {
-  told : l.children ≡ map (λ q. (meaning l.document q).starts) (take l.query-index l.queries);
+abbrev pub invariant-loop-child : goal.invariant-loop-child
+invariant-loop-child l = record {
+  told : l.all ≡ map (λ c. (condition_meaning l.document c).starts) (take l.child-index l.children);
   kept : AreOf l.words l.document.root;
 }

@@ -3,7 +3,7 @@ use Rattle.std.proofs.lemmas.List.{take_all}
 use Rattle.std.specs.List.{starts_with}
 use Rattle.std.specs.Str.{bytes_eq}
 use Rattle.std.proofs.lemmas.Grind.{common_steps}
-use Rattle.plain_query.proofs.PlaceLemmas.{filter_range_push}
+use Rattle.doc_meaning.proofs.PlaceLemmas.{filter_range_push}
 use Rattle.doc_filter.proofs.RunLemmas.{some_there, stand_here}
 use Rattle.doc_filter.proofs.word_runs.stand_in.Goals as goal
 

@@ -1,6 +1,6 @@
 use Rattle.std.proofs.Common.{All, subst, sym, ap, ◌∙◌}
 use Rattle.doc_meaning.specs.Strings.{strings}
-use Rattle.plain_query.proofs.FitLemmas.{IsNumbered, document_fits, strings_numbered}
+use Rattle.doc_meaning.proofs.FitLemmas.{IsNumbered, document_fits, strings_numbered}
 use Rattle.plain_query.proofs.meanings.word_meaning.Goals as goal
 
 pub word_starts-requires : goal.word_starts-requires

@@ -1,5 +1,5 @@
 use Rattle.std.specs.Option.{option_copied}
-use Rattle.plain_query.proofs.ScalarLemmas.{scalars_items, scalars_members}
+use Rattle.doc_meaning.proofs.ScalarLemmas.{scalars_items, scalars_members}
 use Rattle.plain_query.proofs.scalar_list.+scalars.Goals as goal
 
 pub add_scalars-returns-in-Items : goal.add_scalars-returns-in-Items

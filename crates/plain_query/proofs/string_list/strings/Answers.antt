@@ -2,7 +2,7 @@ use Rattle.std.proofs.Common.{◌<◌, ◌^◌, List, ℕ, sum_by, length, subst
 use Rattle.std.specs.List.{filter_map}
 use Rattle.doc_meaning.specs.Strings.{Owner, text_of}
 use Rattle.doc_meaning.specs.Words.{plain}
-use Rattle.plain_query.proofs.FitLemmas.{texts_fit}
+use Rattle.doc_meaning.proofs.FitLemmas.{texts_fit}
 use Rattle.plain_query.proofs.string_list.strings.Goals as goal
 
 pub with_bases-requires : goal.with_bases-requires

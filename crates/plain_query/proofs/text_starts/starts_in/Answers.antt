@@ -1,6 +1,6 @@
 use Rattle.std.proofs.Common.{◌+◌, ◌<◌, ◌^◌, All, subst, sym, ap, ◌∙◌}
 use Rattle.doc_meaning.specs.Strings.{places, words_seen}
-use Rattle.plain_query.proofs.PlaceLemmas.{places_fit}
+use Rattle.doc_meaning.proofs.PlaceLemmas.{places_fit}
 use Rattle.plain_query.proofs.text_starts.starts_in.Goals as goal
 
 pub behind-requires : goal.behind-requires

@@ -1,6 +1,7 @@
 use Rattle.std.proofs.Common.{ap, ◌∙◌, sym, append-nil}
 use Rattle.doc_meaning.specs.Answers.{matching, answer_in}
-use Rattle.plain_history.proofs.EntriesLemmas.{entries-ordered}
+use Rattle.doc_meaning.proofs.MapLemmas.{entries-ordered}
+use Rattle.live_documents.proofs.AnswerLemmas.{passing_is}
 use Rattle.live_documents.proofs.documents.LiveDocuments.answer.Goals as goal
 
 pub returns : goal.returns
@@ -8,5 +9,7 @@ returns c =
     let told = rw c.in-None.ensures.steps.0 at c.loop-uri.invariant in
     let listed = c.into_iter-uri-iterator.ensures.into_iter_gives ∙ c.iter-uri-items.ensures.rest in
     let ordered = entries-ordered c.self.inside.versions.entries c.iter-uri-items.ensures.ordered in
-    sym (append-nil _) ∙ told ∙ ap (λ es. matching es c.args.query.now) (listed ∙ sym ordered)
+    sym (append-nil _) ∙ told
+    ∙ passing_is _ c.in_ok-filter.filter c.args.query.now c.in_ok-filter.ensures
+    ∙ ap (λ es. matching es c.args.query.now) (listed ∙ sym ordered)
     ∙ ap (λ d. answer_in d c.args.query.now) c.self.view_is

@@ -1,6 +1,6 @@
 use Rattle.std.proofs.Common.{ap, ◌∙◌, sym}
 use Rattle.std.specs.FinMap as map
-use Rattle.plain_history.proofs.EntriesLemmas.{get_key}
+use Rattle.doc_meaning.proofs.MapLemmas.{get_key}
 use Rattle.live_documents.proofs.documents.LiveDocuments.get.Goals as goal
 
 pub returns : goal.returns

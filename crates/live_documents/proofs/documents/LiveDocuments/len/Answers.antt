@@ -1,6 +1,6 @@
 use Rattle.std.proofs.Common.{length, ap, ◌∙◌, sym}
 use Rattle.std.specs.FinMap.{len, len-entries}
-use Rattle.plain_history.proofs.EntriesLemmas.{entries-ordered}
+use Rattle.doc_meaning.proofs.MapLemmas.{entries-ordered}
 use Rattle.live_documents.proofs.documents.LiveDocuments.len.Goals as goal
 
 pub returns : goal.returns

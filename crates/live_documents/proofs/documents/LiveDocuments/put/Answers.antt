@@ -1,7 +1,7 @@
 use Rattle.std.proofs.Common.{ap, sym, ◌∙◌}
 use Rattle.std.specs.FinMap as map
 use Rattle.doc_meaning.specs.declared.version.Version.{Version}
-use Rattle.plain_history.proofs.EntriesLemmas.{get_key, one_put}
+use Rattle.doc_meaning.proofs.MapLemmas.{get_key, one_put}
 use Rattle.live_documents.specs.Staging.{live_again}
 use Rattle.live_documents.proofs.StagingLemmas.{put_undone}
 use Rattle.live_documents.proofs.documents.LiveDocuments.put.Goals as goal

@@ -1,6 +1,6 @@
 use Rattle.std.proofs.Common.{ap, ◌∙◌}
 use Rattle.std.specs.FinMap as map
-use Rattle.plain_history.proofs.EntriesLemmas.{one_removed}
+use Rattle.doc_meaning.proofs.MapLemmas.{one_removed}
 use Rattle.live_documents.proofs.documents.LiveDocuments.remove.Goals as goal
 
 pub returns : goal.returns

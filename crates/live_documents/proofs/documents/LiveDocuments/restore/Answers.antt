@@ -1,6 +1,6 @@
 use Rattle.std.proofs.Common.{IsSome, ap, sym, subst, ◌∙◌, rules}
 use Rattle.std.specs.FinMap as map
-use Rattle.plain_history.proofs.EntriesLemmas.{at_key, get_key, one_put}
+use Rattle.doc_meaning.proofs.MapLemmas.{at_key, get_key, one_put}
 use Rattle.live_documents.specs.Staging.{restored}
 use Rattle.live_documents.proofs.StagingLemmas.{restored_there, restored_nowhere}
 use Rattle.live_documents.proofs.documents.LiveDocuments.restore.Goals as goal

@@ -1,6 +1,6 @@
 use Rattle.std.proofs.Common.{ap, ◌∙◌, sym, append-nil}
 use Rattle.doc_meaning.specs.Answers.{matching, answer_in}
-use Rattle.plain_history.proofs.EntriesLemmas.{entries-ordered}
+use Rattle.doc_meaning.proofs.MapLemmas.{entries-ordered}
 use Rattle.plain_history.proofs.database.Database.answer.Goals as goal
 
 pub returns : goal.returns

@@ -1,6 +1,6 @@
 use Rattle.std.proofs.Common.{ap, ◌∙◌, sym, append-nil}
 use Rattle.plain_history.specs.Candidates.{candidates, candidates_in}
-use Rattle.plain_history.proofs.EntriesLemmas.{entries-ordered}
+use Rattle.doc_meaning.proofs.MapLemmas.{entries-ordered}
 use Rattle.plain_history.proofs.database.Database.candidates.Goals as goal
 
 pub returns : goal.returns

@@ -1,6 +1,6 @@
 use Rattle.std.proofs.Common.{ap, ◌∙◌}
 use Rattle.std.specs.FinMap as map
-use Rattle.plain_history.proofs.EntriesLemmas.{one_put}
+use Rattle.doc_meaning.proofs.MapLemmas.{one_put}
 use Rattle.plain_history.proofs.database.Database.put.Goals as goal
 
 pub returns-clause-ok : goal.returns-clause-ok
