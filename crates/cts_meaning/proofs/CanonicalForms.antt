@@ -15,30 +15,30 @@ use Rattle.json_text.specs.Grammar.{Member}
 use Rattle.cts_meaning.specs.Canonical.{case_options, options_member, query_object, query_step, scalars_node, texts_node}
 use Rattle.cts_meaning.specs.Faults.{IsFaultless}
 use Rattle.cts_meaning.specs.Saying.{case_of, depth_text}
-use Rattle.cts_meaning.specs.Shapes.{Field, allows, compare_text, fields_of, needs}
+use Rattle.cts_meaning.specs.Shapes.{Field, compare_text, field_shape, fields_of}
 use Rattle.cts_meaning.specs.declared.form.QueryForm.TheVariants as form
 use Rattle.cts_meaning.specs.declared.shape.OptionKind.{OptionKind}
 use Rattle.cts_meaning.specs.declared.shape.OptionKind.TheVariants as options
+use Rattle.cts_meaning.specs.declared.shape.Shape.{Shape}
 use Rattle.cts_meaning.specs.declared.shape.Shape.TheVariants as shape
 use Rattle.cts_meaning.proofs.Entries.{Entry, IsSound, sound_of}
 use Rattle.cts_meaning.proofs.Names.{names_scalars, names_text, names_texts}
-use Rattle.cts_meaning.proofs.Parts.{field_named}
 use Rattle.cts_meaning.proofs.Written.{case_again, case_clean, compare_clean, comparables_clean, infinity_clean, is_ordered, scalars_clean, texts_clean, value_case, value_clean, value_exact, value_options}
 
-pub entry : (fields : List Field) (name : List ℕ) (n : Node) (field : Field) → field_named fields name ≡ Some field →
-    IsFaultless field.shape n → has_distinct_names n ≡ true → Entry fields (name, n)
-entry fields name n field found clean names = record { field = field; found = found; clean = clean; names = names }
+pub entry : (fields : List Field) (name : List ℕ) (n : Node) (wanted : Shape) → field_shape fields name ≡ Some wanted →
+    IsFaultless wanted n → has_distinct_names n ≡ true → Entry fields (name, n)
+entry fields name n wanted found clean names = record { wanted = wanted; found = found; clean = clean; names = names }
 
 texts_entry : (fields : List Field) (name : List ℕ) (texts : List (List ℕ)) →
-    field_named fields name ≡ Some (needs name shape.Texts) → Entry fields (name, texts_node texts)
+    field_shape fields name ≡ Some shape.Texts → Entry fields (name, texts_node texts)
 texts_entry fields name texts found =
-    entry fields name (texts_node texts) (needs name shape.Texts) found (texts_clean texts) (names_texts texts)
+    entry fields name (texts_node texts) shape.Texts found (texts_clean texts) (names_texts texts)
 
 pub options_entry : (fields : List Field) (kind : OptionKind) (given : List (List ℕ)) →
-    field_named fields (codes "options") ≡ Some (allows (codes "options") (shape.Options kind)) →
+    field_shape fields (codes "options") ≡ Some (shape.Options kind) →
     IsFaultless (shape.Options kind) (texts_node given) → Entry fields (codes "options", texts_node given)
 options_entry fields kind given found clean =
-    entry fields (codes "options") (texts_node given) (allows (codes "options") (shape.Options kind)) found clean
+    entry fields (codes "options") (texts_node given) (shape.Options kind) found clean
     (names_texts given)
 
 -- ---- queries of texts
@@ -66,7 +66,7 @@ directory_sound depth uris true =
       texts_entry (fields_of form.Directory) (codes "uris") uris refl,
       (
         entry (fields_of form.Directory) (codes "depth") (node.Text (depth_text true))
-            (allows (codes "depth") shape.Depth) refl infinity_clean (names_text (depth_text true)),
+            shape.Depth refl infinity_clean (names_text (depth_text true)),
         tt,
       ),
     ) refl refl (uris, true, inr refl, refl, refl)
@@ -127,7 +127,7 @@ named_values names values others =
 
 values_entry : (values : List Scalar) → Entry (fields_of form.PropValue) (codes "value", scalars_node values)
 values_entry values =
-    entry (fields_of form.PropValue) (codes "value") (scalars_node values) (needs (codes "value") shape.Scalars) refl
+    entry (fields_of form.PropValue) (codes "value") (scalars_node values) shape.Scalars refl
     (scalars_clean values) (names_scalars values)
 
 abbrev value_query : List (List ℕ) → List Scalar → List (List ℕ) → Query
@@ -169,10 +169,10 @@ range_sound depth names op values ordered =
       texts_entry (fields_of form.Range) (codes "property") names refl,
       (
         entry (fields_of form.Range) (codes "operator") (node.Text (compare_text op))
-            (needs (codes "operator") shape.Compare) refl (compare_clean op) (names_text (compare_text op)),
+            shape.Compare refl (compare_clean op) (names_text (compare_text op)),
         (
           entry (fields_of form.Range) (codes "value") (scalars_node values)
-              (needs (codes "value") shape.Comparables) refl (comparables_clean values ordered) (names_scalars values),
+              shape.Comparables refl (comparables_clean values ordered) (names_scalars values),
           tt,
         ),
       ),

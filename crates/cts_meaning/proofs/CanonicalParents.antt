@@ -1,5 +1,5 @@
 -- What is written of a query with children has no fault and says the query, where that of each child does.
-use Rattle.std.proofs.Common.{◌≡◌, ℕ, pos, suc, ◌*◌, ◌^◌, ◌≤◌, ◌==◌, Bool, true, false, not, List, [], ◌∷◌, ◌++◌, Some, refl, subst, ◌∙◌, eqb-true}
+use Rattle.std.proofs.Common.{◌≡◌, ℕ, pos, suc, ◌*◌, ◌^◌, ◌≤◌, ◌==◌, Bool, true, false, not, List, [], ◌∷◌, ◌++◌, Some, refl, ap, subst, ◌∙◌, eqb-true}
 use Rattle.std.specs.Prelude.{codes}
 use Rattle.std.specs.List.{list_all}
 use Rattle.doc_model.specs.Tree.{has_distinct_names, is_among}
@@ -10,32 +10,31 @@ use Rattle.doc_model.specs.declared.query.Query.TheOpen.{Query-F}
 use Rattle.doc_model.specs.declared.query.Query.TheVariants as query
 use Rattle.json_text.specs.Grammar.{Each, Member}
 use Rattle.cts_meaning.specs.Canonical.{only_if, options_member, query_object, query_step, texts_node}
-use Rattle.cts_meaning.specs.Faults.{IsFaultless}
+use Rattle.cts_meaning.specs.Faults.{AreFaultless, IsFaultless}
 use Rattle.cts_meaning.specs.Saying.{Says}
-use Rattle.cts_meaning.specs.Shapes.{Field, allows, fields_of, greatest_distance, needs, whole}
+use Rattle.cts_meaning.specs.Shapes.{Field, field_shape, fields_of, greatest_distance, item_parts, parts_by, rule_of, whole}
 use Rattle.cts_meaning.specs.declared.form.QueryForm.TheVariants as form
 use Rattle.cts_meaning.specs.declared.shape.OptionKind.TheVariants as options
 use Rattle.cts_meaning.specs.declared.shape.Shape.TheVariants as shape
 use Rattle.cts_meaning.proofs.CanonicalForms.{entry, options_entry}
-use Rattle.cts_meaning.proofs.Counts.{array_of}
 use Rattle.cts_meaning.proofs.Entries.{Entry, IsSound, sound_of}
-use Rattle.cts_meaning.proofs.Least.{AreFaultless, faultless_of}
+use Rattle.cts_meaning.proofs.Least.{faultless_of}
 use Rattle.cts_meaning.proofs.Names.{names_items, names_number}
-use Rattle.cts_meaning.proofs.Parts.{field_named}
+use Rattle.cts_meaning.proofs.Nodes.{out_items}
 use Rattle.cts_meaning.proofs.Written.{distance_clean, order_again, order_clean, order_options}
 
 -- nodes without a fault that say the queries, and in which names are distinct
 pub record AreSound (depth : ℕ) (nodes : List Node) (queries : List Query) : Type 0 where
-  pub clean : AreFaultless (array_of shape.Query nodes)
+  pub clean : AreFaultless (item_parts shape.Query nodes)
   pub says : Each (Says depth) nodes queries
   pub names : list_all has_distinct_names nodes ≡ true
 
 -- ---- one child, or two
 
 child_entry : (fields : List Field) (name : List ℕ) (depth : ℕ) (n : Node) (q : Query) →
-    field_named fields name ≡ Some (needs name shape.Query) → IsSound depth n q → Entry fields (name, n)
+    field_shape fields name ≡ Some shape.Query → IsSound depth n q → Entry fields (name, n)
 child_entry fields name depth n q found sound =
-    entry fields name n (needs name shape.Query) found sound.clean sound.names
+    entry fields name n shape.Query found sound.clean sound.names
 
 pub not_sound : (depth : ℕ) (n : Node) (q : Query) → IsSound depth n q →
     IsSound (suc depth) (query_step (Query-F.Not n)) (query.Not q)
@@ -56,11 +55,12 @@ and_not_sound depth n m positive negative sound also =
 -- ---- any number of children
 
 queries_entry : (fields : List Field) (depth : ℕ) (nodes : List Node) (queries : List Query) →
-    field_named fields (codes "queries") ≡ Some (needs (codes "queries") shape.Queries) → AreSound depth nodes queries →
+    field_shape fields (codes "queries") ≡ Some shape.Queries → AreSound depth nodes queries →
     Entry fields (codes "queries", node.Items nodes)
 queries_entry fields depth nodes queries found sound =
-    entry fields (codes "queries") (node.Items nodes) (needs (codes "queries") shape.Queries) found
-    (faultless_of shape.Queries (node.Items nodes) (array_of shape.Query nodes) (nodes, refl, refl) sound.clean)
+    entry fields (codes "queries") (node.Items nodes) shape.Queries found
+    (faultless_of shape.Queries (node.Items nodes) (item_parts shape.Query nodes) 
+    (ap (parts_by (rule_of shape.Queries)) (out_items nodes)) sound.clean)
     (names_items nodes ∙ sound.names)
 
 pub and_sound : (depth : ℕ) (nodes : List Node) (queries : List Query) → AreSound depth nodes queries →
@@ -82,7 +82,7 @@ or_sound depth nodes queries sound =
 distance_entry : (distance : ℕ) → distance ≤ greatest_distance →
     Entry (fields_of form.Near) (codes "distance", whole distance)
 distance_entry distance small =
-    entry (fields_of form.Near) (codes "distance") (whole distance) (allows (codes "distance") shape.Distance) refl
+    entry (fields_of form.Near) (codes "distance") (whole distance) shape.Distance refl
     (distance_clean distance small) (names_number (pos (distance * 10 ^ 18)))
 
 module _ (depth : ℕ) (nodes : List Node) (queries : List Query) (distance : ℕ) (sound : AreSound depth nodes queries)

@@ -7,7 +7,7 @@ use Rattle.doc_model.specs.declared.node.Node.TheOpen.{Node-F}
 use Rattle.doc_model.specs.declared.node.Node.TheFolds.{fold-roll-Node}
 use Rattle.json_text.specs.Grammar.{Member}
 use Rattle.cts_meaning.specs.Faults.{count_step, node_count, number_behind}
-use Rattle.cts_meaning.specs.Shapes.{Part}
+use Rattle.cts_meaning.specs.Shapes.{Part, item_parts}
 use Rattle.cts_meaning.specs.declared.shape.Shape.{Shape}
 use Rattle.cts_meaning.proofs.Nodes.{Sort, sort}
 
@@ -75,12 +75,8 @@ pub behind_cons : (part : Part) (parts : List Part) →
     number_behind (part ∷ parts) ≡ node_count part.1 + number_behind parts
 behind_cons part parts = omega (arith, sum_by-cons part_count part parts)
 
--- nodes, each to be of one shape
-abbrev pub array_of : Shape → List Node → List Part
-array_of item items = map (λ i. (item, i)) items
-
-pub sum_array : (item : Shape) (items : List Node) → sum_by part_count (array_of item items) ≡ sum_by node_count items
-sum_array item [] = refl
-sum_array item (i ∷ items) =
-    sum_by-cons part_count (item, i) (array_of item items)
-    ∙ ap (λ n. node_count i + n) (sum_array item items) ∙ sym (sum_by-cons node_count i items)
+pub sum_items : (item : Shape) (items : List Node) → sum_by part_count (item_parts item items) ≡ sum_by node_count items
+sum_items item [] = refl
+sum_items item (i ∷ items) =
+    sum_by-cons part_count (item, i) (item_parts item items)
+    ∙ ap (λ n. node_count i + n) (sum_items item items) ∙ sym (sum_by-cons node_count i items)

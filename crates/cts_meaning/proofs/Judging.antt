@@ -1,13 +1,12 @@
 -- A node has no fault as a shape, or a first one.
-use Rattle.std.proofs.Common.{◌≡◌, ℕ, zero, suc, ◌+◌, ◌≤◌, ◌⊎◌, inl, inr, List, [], ◌∷◌, ◌++◌, sum_by, refl, ap, subst, arith}
+use Rattle.std.proofs.Common.{◌≡◌, ℕ, zero, suc, ◌+◌, ◌≤◌, ◌⊎◌, inl, inr, List, [], ◌∷◌, ◌++◌, sum_by, Option, Some, None, refl, ap, ◌∙◌, arith}
 use Rattle.std.proofs.lemmas.List.Sums.{sum_by-cons}
 use Rattle.doc_model.specs.declared.node.Node.{Node}
-use Rattle.cts_meaning.specs.Faults.{FaultIn, IsFaultless, IsFirstFault, node_count, number_behind}
-use Rattle.cts_meaning.specs.Shapes.{HasShape, Part}
+use Rattle.cts_meaning.specs.Faults.{AreFaultless, FaultIn, IsFaultless, IsFirstFault, node_count, number_behind}
+use Rattle.cts_meaning.specs.Shapes.{Part, parts_of}
 use Rattle.cts_meaning.specs.declared.shape.Shape.{Shape}
 use Rattle.cts_meaning.proofs.Counts.{count_some, part_count}
-use Rattle.cts_meaning.proofs.Fitting.{Decided, fit}
-use Rattle.cts_meaning.proofs.Least.{AreFaultless, faultless_of, first_here, first_of_parts, parts_faultless}
+use Rattle.cts_meaning.proofs.Least.{faultless_of, first_here, first_of_parts, parts_faultless}
 use Rattle.cts_meaning.proofs.Parts.{count_of_parts}
 
 abbrev pub Judged : Shape → Node → Type 0
@@ -56,25 +55,26 @@ parts_judged room judge (part ∷ parts) le =
     head_judged part parts (judge part.0 part.1 (omega (arith, le, sum)))
     (parts_judged room judge parts (omega (arith, le, sum)))
 
-from_parts : (wanted : Shape) (n : Node) (parts : List Part) → HasShape wanted n parts → AreJudged parts →
+from_parts : (wanted : Shape) (n : Node) (parts : List Part) → parts_of wanted n ≡ Some parts → AreJudged parts →
     Judged wanted n
 from_parts wanted n parts fits (inl clean) = inl (faultless_of wanted n parts fits clean)
 from_parts wanted n parts fits (inr first) = inr (
   number_behind first.before + first.number,
   first_of_parts wanted n first.before first.behind first.part first.number
-      (subst (HasShape wanted n) first.are fits) first.clean first.first,
+      (fits ∙ ap (λ (ps : List Part). Some ps) first.are) first.clean first.first,
 )
 
 judged_by : (room : ℕ) (wanted : Shape) (n : Node) → node_count n ≤ suc room →
-    ((other : Shape) (m : Node) → node_count m ≤ room → Judged other m) → Decided (HasShape wanted n) → Judged wanted n
-judged_by room wanted n le judge (inl (parts, fits)) =
+    ((other : Shape) (m : Node) → node_count m ≤ room → Judged other m) → (o : Option (List Part)) →
+    parts_of wanted n ≡ o → Judged wanted n
+judged_by room wanted n le judge (Some parts) fits =
     let all = count_of_parts wanted n parts fits in
     from_parts wanted n parts fits (parts_judged room judge parts (omega (arith, le, all)))
-judged_by room wanted n le judge (inr misfit) = inr (0, first_here wanted n misfit)
+judged_by room wanted n le judge None misfit = inr (0, first_here wanted n misfit)
 
 judged_within : (room : ℕ) (wanted : Shape) (n : Node) → node_count n ≤ room → Judged wanted n
 judged_within zero wanted n le = absurd (omega (arith, le, count_some n))
-judged_within (suc room) wanted n le = judged_by room wanted n le (judged_within room) (fit wanted n)
+judged_within (suc room) wanted n le = judged_by room wanted n le (judged_within room) (parts_of wanted n) refl
 
 pub judged : (wanted : Shape) (n : Node) → Judged wanted n
 judged wanted n = judged_within (node_count n) wanted n (omega arith)
@@ -84,13 +84,14 @@ judged wanted n = judged_within (node_count n) wanted n (omega arith)
 -- its parts, of which none has one either
 pub record Clean (wanted : Shape) (n : Node) : Type 0 where
   pub parts : List Part
-  pub fits : HasShape wanted n parts
+  pub fits : parts_of wanted n ≡ Some parts
   pub clean : AreFaultless parts
 
-clean_by : (wanted : Shape) (n : Node) → IsFaultless wanted n → Decided (HasShape wanted n) → Clean wanted n
-clean_by wanted n clean (inl (parts, fits)) =
+clean_by : (wanted : Shape) (n : Node) → IsFaultless wanted n → (o : Option (List Part)) → parts_of wanted n ≡ o →
+    Clean wanted n
+clean_by wanted n clean (Some parts) fits =
     record { parts = parts; fits = fits; clean = parts_faultless wanted n parts fits clean }
-clean_by wanted n clean (inr misfit) = absurd (clean 0 (FaultIn.here wanted n 0 misfit refl))
+clean_by wanted n clean None misfit = absurd (clean 0 (FaultIn.here wanted n 0 misfit refl))
 
 pub clean_node : (wanted : Shape) (n : Node) → IsFaultless wanted n → Clean wanted n
-clean_node wanted n clean = clean_by wanted n clean (fit wanted n)
+clean_node wanted n clean = clean_by wanted n clean (parts_of wanted n) refl

@@ -1,18 +1,19 @@
 -- Faults lie in a node, those of an earlier part before those of a later one.
-use Rattle.std.proofs.Common.{◌≡◌, ℕ, ◌+◌, ◌<◌, ◌≤◌, List, [], ◌∷◌, ◌++◌, refl, sym, ap, subst, ◌∙◌, append_assoc, arith}
+use Rattle.std.proofs.Common.{◌≡◌, ℕ, ◌+◌, ◌<◌, ◌≤◌, List, [], ◌∷◌, ◌++◌, Some, None, refl, sym, ap, subst, ◌∙◌, append_assoc, arith}
 use Rattle.std.proofs.lemmas.List.Sums.{sum_by-cons}
 use Rattle.doc_model.specs.declared.node.Node.{Node}
-use Rattle.cts_meaning.specs.Faults.{FaultIn, IsFaultless, IsFirstFault, node_count, number_behind}
+use Rattle.cts_meaning.specs.Faults.{AreFaultless, FaultIn, IsFaultless, IsFirstFault, node_count, number_behind}
 use Rattle.cts_meaning.specs.Laws.{FaultsLieInside}
-use Rattle.cts_meaning.specs.Shapes.{HasShape, Part}
+use Rattle.cts_meaning.specs.Shapes.{Part, parts_of}
 use Rattle.cts_meaning.specs.declared.shape.Shape.{Shape}
 use Rattle.cts_meaning.proofs.Counts.{behind_append, behind_cons, count_some, part_count}
-use Rattle.cts_meaning.proofs.Parts.{count_of_parts, one_shape}
+use Rattle.cts_meaning.proofs.Parts.{count_of_parts, one_list}
+use Rattle.cts_meaning.proofs.Named.{not_some}
 
 -- ---- within the node
 
 part_within : (wanted : Shape) (n : Node) (before behind : List Part) (part : Part) →
-    HasShape wanted n (before ++ part ∷ behind) → number_behind before + node_count part.1 ≤ node_count n
+    parts_of wanted n ≡ Some (before ++ part ∷ behind) → number_behind before + node_count part.1 ≤ node_count n
 part_within wanted n before behind part fits =
     let all = count_of_parts wanted n (before ++ part ∷ behind) fits in
     let split = behind_append before behind part in
@@ -41,21 +42,17 @@ pub record InPart (parts : List Part) (number : ℕ) : Type 0 where
   pub is : number ≡ number_behind before + inner
 
 pub in_part : {wanted : Shape} {n : Node} {number : ℕ} → FaultIn wanted n number → (parts : List Part) →
-    HasShape wanted n parts → InPart parts number
-in_part (FaultIn.here wanted n number misfit is) parts fits = absurd (misfit parts fits)
+    parts_of wanted n ≡ Some parts → InPart parts number
+in_part (FaultIn.here wanted n number misfit is) parts fits = absurd (not_some parts (sym misfit ∙ fits))
 in_part (FaultIn.inside wanted n number before behind part inner has deeper is) parts fits = record {
   before = before;
   part = part;
   behind = behind;
   inner = inner;
-  are = one_shape wanted n parts (before ++ part ∷ behind) fits has;
+  are = one_list parts (before ++ part ∷ behind) fits has;
   fault = deeper;
   is = is;
 }
-
-abbrev pub AreFaultless : List Part → Type 0
-AreFaultless [] = Unit {0}
-AreFaultless (part ∷ parts) = IsFaultless part.0 part.1 × AreFaultless parts
 
 faultless_among : (before behind : List Part) (part : Part) → AreFaultless (before ++ part ∷ behind) →
     IsFaultless part.0 part.1
@@ -63,25 +60,25 @@ faultless_among [] behind part clean = clean.0
 faultless_among (first ∷ before) behind part clean = faultless_among before behind part clean.1
 
 -- a node that fits has no fault where its parts have none
-pub faultless_of : (wanted : Shape) (n : Node) (parts : List Part) → HasShape wanted n parts → AreFaultless parts →
+pub faultless_of : (wanted : Shape) (n : Node) (parts : List Part) → parts_of wanted n ≡ Some parts → AreFaultless parts →
     IsFaultless wanted n
 faultless_of wanted n parts fits clean number fault =
     let found = in_part fault parts fits in
     faultless_among found.before found.behind found.part (subst AreFaultless found.are clean) found.inner found.fault
 
-parts_from : (wanted : Shape) (n : Node) (parts before rest : List Part) → HasShape wanted n parts →
+parts_from : (wanted : Shape) (n : Node) (parts before rest : List Part) → parts_of wanted n ≡ Some parts →
     IsFaultless wanted n →
     parts ≡ before ++ rest → AreFaultless rest
 parts_from wanted n parts before [] fits clean are = tt
 parts_from wanted n parts before (part ∷ rest) fits clean are = (
   λ inner fault. clean (number_behind before + inner)
       (FaultIn.inside wanted n (number_behind before + inner) before rest part inner
-      (subst (HasShape wanted n) are fits) fault refl),
+      (fits ∙ ap (λ (ps : List Part). Some ps) are) fault refl),
   parts_from wanted n parts (before ++ part ∷ []) rest fits clean (are ∙ sym (append_assoc before (part ∷ []) rest)),
 )
 
 -- and its parts have none where it has none
-pub parts_faultless : (wanted : Shape) (n : Node) (parts : List Part) → HasShape wanted n parts → IsFaultless wanted n →
+pub parts_faultless : (wanted : Shape) (n : Node) (parts : List Part) → parts_of wanted n ≡ Some parts → IsFaultless wanted n →
     AreFaultless parts
 parts_faultless wanted n parts fits clean = parts_from wanted n parts [] parts fits clean refl
 
@@ -123,7 +120,7 @@ no_sooner (x ∷ before) (y ∷ b) part p behind h k i e clean first fault =
 
 -- in a node that fits, the first fault of the first part that has one is the first
 pub first_of_parts : (wanted : Shape) (n : Node) (before behind : List Part) (part : Part) (k : ℕ) →
-    HasShape wanted n (before ++ part ∷ behind) → AreFaultless before → IsFirstFault part.0 part.1 k →
+    parts_of wanted n ≡ Some (before ++ part ∷ behind) → AreFaultless before → IsFirstFault part.0 part.1 k →
     IsFirstFault wanted n (number_behind before + k)
 first_of_parts wanted n before behind part k fits clean first = record {
   faulty = FaultIn.inside wanted n (number_behind before + k) before behind part k fits first.faulty refl;
@@ -135,7 +132,7 @@ first_of_parts wanted n before behind part k fits clean first = record {
 }
 
 -- a node that doesn't fit is the first fault itself
-pub first_here : (wanted : Shape) (n : Node) → ((parts : List Part) → HasShape wanted n parts → ⊥) →
+pub first_here : (wanted : Shape) (n : Node) → parts_of wanted n ≡ None →
     IsFirstFault wanted n 0
 first_here wanted n misfit =
     record { faulty = FaultIn.here wanted n 0 misfit refl; least = λ other fault. omega arith }

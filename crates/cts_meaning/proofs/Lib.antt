@@ -4,10 +4,8 @@ pub mod CanonicalQueries
 pub mod Counts
 pub mod EachJudged
 pub mod Entries
-pub mod Fitting
 pub mod Judging
 pub mod Least
-pub mod Leaves
 pub mod Members
 pub mod Named
 pub mod Names
@@ -17,6 +15,6 @@ pub mod Parts
 pub mod SaidForms
 pub mod SaidValues
 pub mod Scalars
-pub mod Sorts
 pub mod Values
 pub mod Written
+pub mod Wholes

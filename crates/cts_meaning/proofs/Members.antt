@@ -1,24 +1,21 @@
 -- The members of an argument object without faults, by their names.
-use Rattle.std.proofs.Common.{◌≡◌, ℕ, ◌<◌, ◌≤◌, ◌⊎◌, inl, inr, ⊎_elim, Bool, true, false, ◌||◌, cond, List, [], ◌∷◌, map, length, get_or, sum_by, Option, Some, refl, sym, ap, subst, ◌∙◌, true≢false, arith}
+use Rattle.std.proofs.Common.{◌≡◌, ℕ, ◌<◌, ◌≤◌, ◌⊎◌, inl, inr, ⊎_elim, Bool, true, false, ◌||◌, cond, List, [], ◌∷◌, ◌++◌, map, length, get_or, sum_by, Option, Some, None, refl, sym, ap, subst, ◌∙◌, true≢false, arith}
 use Rattle.std.proofs.lemmas.Bool.{or_cases}
-use Rattle.std.proofs.lemmas.List.Sums.{sum_by-cons}
+use Rattle.std.proofs.lemmas.List.Sums.{AllPass-from_list_all, sum_by-cons}
 use Rattle.std.proofs.lemmas.Slice.Eq.{bytes_eq-Decides}
-use Rattle.std.specs.List.{find}
-use Rattle.std.specs.Option.{option_map}
+use Rattle.std.specs.List.{find, list_all}
+use Rattle.std.specs.Option.{option_map, option_to_list}
 use Rattle.std.specs.Str.{bytes_eq}
 use Rattle.doc_model.specs.Tree.{is_among}
 use Rattle.doc_model.specs.declared.node.Node.{Node}
-use Rattle.json_text.specs.Grammar.{Each, Member}
-use Rattle.cts_meaning.specs.Faults.{IsFaultless, node_count}
+use Rattle.json_text.specs.Grammar.{Member}
+use Rattle.cts_meaning.specs.Faults.{AreFaultless, IsFaultless, node_count}
 use Rattle.cts_meaning.specs.Saying.{value_of}
-use Rattle.cts_meaning.specs.Shapes.{Field, HasRequired, IsField, Part, allows, fields_of, needs}
+use Rattle.cts_meaning.specs.Shapes.{Field, Part, field_shape, fields_of, is_given, member_parts, needs}
 use Rattle.cts_meaning.specs.declared.form.QueryForm.{QueryForm}
 use Rattle.cts_meaning.specs.declared.shape.Shape.{Shape}
 use Rattle.cts_meaning.proofs.Counts.{member_count}
-use Rattle.cts_meaning.proofs.Fitting.{is_given}
-use Rattle.cts_meaning.proofs.Least.{AreFaultless}
 use Rattle.cts_meaning.proofs.Named.{not_some, same_some}
-use Rattle.cts_meaning.proofs.Parts.{field_named}
 
 -- ---- the first member of a name
 
@@ -48,23 +45,30 @@ value_within name (m ∷ ms) n v =
 
 -- ---- of an object without faults
 
-here_clean : (fields : List Field) (m : Member) (part : Part) (found field : Field) (name : List ℕ) (n : Node) →
-    field_named fields m.0 ≡ Some found → part ≡ (found.shape, m.1) → field_named fields name ≡ Some field →
-    m.0 ≡ name → m.1 ≡ n → IsFaultless part.0 part.1 → IsFaultless field.shape n
-here_clean fields m part found field name n is are e named same clean =
-    let first : IsFaultless found.shape m.1 = subst (λ (p : Part). IsFaultless p.0 p.1) are clean in
-    let kind = same_some found field (sym is ∙ ap (field_named fields) named ∙ e) in
-    subst (λ (k : Node). IsFaultless field.shape k) same (subst (λ (f : Field). IsFaultless f.shape m.1) kind first)
+abbrev asked_parts : Option Shape → Member → List Part → List Part
+asked_parts o m rest = option_to_list (option_map (λ (s : Shape). (s, m.1)) o) ++ rest
 
--- the value of a member that is a field has no fault as the field's shape
-value_clean : (fields : List Field) (members : List Member) (parts : List Part) → Each (IsField fields) members parts →
-    AreFaultless parts → (name : List ℕ) (field : Field) → field_named fields name ≡ Some field → (n : Node) →
-    value_of name members ≡ Some n → IsFaultless field.shape n
-value_clean fields [] parts each clean name field e n v = absurd (not_some n v)
-value_clean fields (m ∷ ms) [] each clean name field e n v = absurd each
-value_clean fields (m ∷ ms) (part ∷ parts) ((found, is, are), others) clean name field e n v =
-    ⊎_elim (λ here. here_clean fields m part found field name n is are e here.0 here.1 clean.0)
-    (λ later. value_clean fields ms parts others clean.1 name field e n later) (value_cases name m ms n v)
+here_clean : (o : Option Shape) (m : Member) (rest : List Part) (wanted : Shape) → o ≡ Some wanted →
+    AreFaultless (asked_parts o m rest) → IsFaultless wanted m.1
+here_clean None m rest wanted e clean = absurd (not_some wanted e)
+here_clean (Some s) m rest wanted e clean =
+    subst (λ (k : Shape). IsFaultless k m.1) (same_some s wanted e) clean.0
+
+rest_clean : (o : Option Shape) (m : Member) (rest : List Part) → AreFaultless (asked_parts o m rest) →
+    AreFaultless rest
+rest_clean None m rest clean = clean
+rest_clean (Some s) m rest clean = clean.1
+
+-- the value of a member whose name asks a shape has no fault as this shape
+value_clean : (asked : List ℕ → Option Shape) (members : List Member) → AreFaultless (member_parts asked members) →
+    (name : List ℕ) (wanted : Shape) → asked name ≡ Some wanted → (n : Node) → value_of name members ≡ Some n →
+    IsFaultless wanted n
+value_clean asked [] clean name wanted e n v = absurd (not_some n v)
+value_clean asked (m ∷ ms) clean name wanted e n v = ⊎_elim
+    (λ here. subst (λ (k : Node). IsFaultless wanted k) here.1
+    (here_clean (asked m.0) m (member_parts asked ms) wanted (ap asked here.0 ∙ e) clean))
+    (λ later. value_clean asked ms (rest_clean (asked m.0) m (member_parts asked ms) clean) name wanted e n later)
+    (value_cases name m ms n v)
 
 -- ---- a name that is there
 
@@ -93,10 +97,8 @@ value_given name (m ∷ ms) is = given_by name m ms (bytes_eq m.0 name) refl is 
 
 -- the members of a form's argument object that fits and in which there is no fault
 pub record Argument (f : QueryForm) (members : List Member) : Type 0 where
-  pub required : HasRequired (fields_of f) members
-  pub parts : List Part
-  pub each : Each (IsField (fields_of f)) members parts
-  pub clean : AreFaultless parts
+  pub given : list_all (is_given members) (fields_of f) ≡ true
+  pub clean : AreFaultless (member_parts (field_shape (fields_of f)) members)
 
 -- a value without faults
 pub record ValueAs (wanted : Shape) (name : List ℕ) (members : List Member) : Type 0 where
@@ -104,23 +106,19 @@ pub record ValueAs (wanted : Shape) (name : List ℕ) (members : List Member) : 
   pub found : value_of name members ≡ Some value
   pub clean : IsFaultless wanted value
 
-clean_as : (f : QueryForm) (members : List Member) → Argument f members → (name : List ℕ) (field : Field) →
-    field_named (fields_of f) name ≡ Some field → (n : Node) → value_of name members ≡ Some n →
-    IsFaultless field.shape n
-clean_as f members a name field e n v = value_clean (fields_of f) members a.parts a.each a.clean name field e n v
+-- a member that may be left out
+pub allowed : (f : QueryForm) (members : List Member) → Argument f members → (name : List ℕ) (wanted : Shape) →
+    field_shape (fields_of f) name ≡ Some wanted → (n : Node) → value_of name members ≡ Some n →
+    IsFaultless wanted n
+allowed f members a name wanted e n v =
+    value_clean (field_shape (fields_of f)) members a.clean name wanted e n v
 
 -- a member that is needed
 pub needed : (f : QueryForm) (members : List Member) → Argument f members → (name : List ℕ) (wanted : Shape) (k : ℕ) →
-    field_named (fields_of f) name ≡ Some (needs name wanted) → k < length (fields_of f) →
+    field_shape (fields_of f) name ≡ Some wanted → k < length (fields_of f) →
     get_or (fields_of f) k (needs name wanted) ≡ needs name wanted → ValueAs wanted name members
 needed f members a name wanted k e lt at_k =
-    let field = needs name wanted in
-    let given = subst (λ (g : Field). is_given members g ≡ true) at_k (a.required k field lt) in
+    let all = AllPass-from_list_all (is_given members) (fields_of f) a.given in
+    let given = subst (λ (g : Field). is_given members g ≡ true) at_k (all k (needs name wanted) lt) in
     let value = value_given name members given in
-    record { value = value.0; found = value.1; clean = clean_as f members a name field e value.0 value.1 }
-
--- a member that may be left out
-pub allowed : (f : QueryForm) (members : List Member) → Argument f members → (name : List ℕ) (wanted : Shape) →
-    field_named (fields_of f) name ≡ Some (allows name wanted) → (n : Node) → value_of name members ≡ Some n →
-    IsFaultless wanted n
-allowed f members a name wanted e n v = clean_as f members a name (allows name wanted) e n v
+    record { value = value.0; found = value.1; clean = allowed f members a name wanted e value.0 value.1 }

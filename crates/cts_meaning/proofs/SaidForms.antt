@@ -1,5 +1,5 @@
 -- An argument object without faults says a query, where each query in it does.
-use Rattle.std.proofs.Common.{◌≡◌, ℕ, ◌≤◌, List, [], ◌∷◌, sum_by, Some, refl, ap, subst, ◌∙◌, arith}
+use Rattle.std.proofs.Common.{◌≡◌, ℕ, ◌≤◌, List, [], ◌∷◌, sum_by, Some, refl, sym, ap, subst, ◌∙◌, arith}
 use Rattle.std.proofs.lemmas.List.Sums.{sum_by-cons}
 use Rattle.std.specs.Prelude.{codes}
 use Rattle.doc_model.specs.Tree.{is_among}
@@ -7,26 +7,26 @@ use Rattle.doc_model.specs.declared.node.Node.{Node}
 use Rattle.doc_model.specs.declared.query.Query.{Query}
 use Rattle.doc_model.specs.declared.query.Query.TheVariants as query
 use Rattle.json_text.specs.Grammar.{Each, Member}
-use Rattle.cts_meaning.specs.Faults.{IsFaultless, node_count}
+use Rattle.cts_meaning.specs.Faults.{AreFaultless, IsFaultless, node_count}
 use Rattle.cts_meaning.specs.Saying.{AreChildren, AreOptions, IsChild, SaysAs, case_of, value_of}
-use Rattle.cts_meaning.specs.Shapes.{allows, fields_of}
+use Rattle.cts_meaning.specs.Shapes.{field_shape, fields_of, item_parts}
 use Rattle.cts_meaning.specs.declared.form.QueryForm.{QueryForm}
 use Rattle.cts_meaning.specs.declared.form.QueryForm.TheVariants as form
 use Rattle.cts_meaning.specs.declared.shape.OptionKind.{OptionKind}
 use Rattle.cts_meaning.specs.declared.shape.OptionKind.TheVariants as options
 use Rattle.cts_meaning.specs.declared.shape.Shape.TheVariants as shape
-use Rattle.cts_meaning.proofs.Counts.{array_of, count_items, member_count}
+use Rattle.cts_meaning.proofs.Counts.{count_items, member_count}
 use Rattle.cts_meaning.proofs.Judging.{clean_node}
-use Rattle.cts_meaning.proofs.Least.{AreFaultless}
 use Rattle.cts_meaning.proofs.Members.{Argument, ValueAs, allowed, needed, value_within}
-use Rattle.cts_meaning.proofs.Parts.{field_named}
+use Rattle.cts_meaning.proofs.Named.{same_some}
+use Rattle.cts_meaning.proofs.Parts.{array_of}
 use Rattle.cts_meaning.proofs.SaidValues.{compare_at, comparables_at, depth_by, distance_by, options_by, scalars_at, texts_at}
 
 abbrev OptionsAt : List Member → Type 0
 OptionsAt members = (given : List (List ℕ)) × AreOptions (value_of (codes "options") members) given
 
 options_at : (f : QueryForm) (members : List Member) → Argument f members → (kind : OptionKind) →
-    field_named (fields_of f) (codes "options") ≡ Some (allows (codes "options") (shape.Options kind)) →
+    field_shape (fields_of f) (codes "options") ≡ Some (shape.Options kind) →
     OptionsAt members
 options_at f members a kind e =
     options_by kind (value_of (codes "options") members)
@@ -34,7 +34,7 @@ options_at f members a kind e =
 
 module _ (IsSaid : Node → Query → Type 0) (room : ℕ)
     (say : (n : Node) → node_count n ≤ room → IsFaultless shape.Query n → (q : Query) × IsSaid n q) where
-  each_said : (items : List Node) → sum_by node_count items ≤ room → AreFaultless (array_of shape.Query items) →
+  each_said : (items : List Node) → sum_by node_count items ≤ room → AreFaultless (item_parts shape.Query items) →
       (queries : List Query) × Each IsSaid items queries
   each_said [] le clean = ([], tt)
   each_said (i ∷ items) le clean =
@@ -50,11 +50,12 @@ module _ (IsSaid : Node → Query → Type 0) (room : ℕ)
       ValueAs shape.Queries (codes "queries") members → Children members
   children_at members le v =
       let c = clean_node shape.Queries v.value v.clean in
-      let items = c.fits.0 in
+      let array = array_of (λ items. Some shape.Query) shape.Query v.value c.parts
+      (λ items item e. sym (same_some shape.Query item e)) c.fits in
       let within = value_within (codes "queries") members v.value v.found in
-      let count = ap node_count c.fits.1 ∙ count_items items in
-      let each = each_said items (omega (arith, le, within, count)) (subst AreFaultless c.fits.2 c.clean) in
-      (each.0, (items, v.found ∙ ap (λ (n : Node). Some n) c.fits.1, each.1))
+      let count = ap node_count array.is ∙ count_items array.items in
+      let each = each_said array.items (omega (arith, le, within, count)) (subst AreFaultless array.are c.clean) in
+      (each.0, (array.items, v.found ∙ ap (λ (n : Node). Some n) array.is, each.1))
 
   abbrev Child : List ℕ → List Member → Type 0
   Child name members = (q : Query) × IsChild IsSaid (value_of name members) q

@@ -9,9 +9,9 @@ use Rattle.doc_model.specs.declared.query.Compare.{Compare}
 use Rattle.doc_model.specs.declared.scalar.Scalar.{Scalar}
 use Rattle.cts_meaning.specs.Saying.{AreOptions, AreScalars, AreTexts, AreValues, IsCompare, IsDepth, IsDistance, depth_text}
 use Rattle.cts_meaning.specs.Shapes.{compare_text, scalar_node, whole}
-use Rattle.cts_meaning.proofs.Leaves.{same_whole}
 use Rattle.cts_meaning.proofs.Named.{same_compare, same_some}
 use Rattle.cts_meaning.proofs.Nodes.{items_in, items_in_array, number_in, number_in_number, sort_items, sort_of, sort_text, text_in, text_in_string}
+use Rattle.cts_meaning.proofs.Wholes.{same_whole}
 use Rattle.cts_meaning.proofs.Scalars.{scalar_in, scalar_in_scalar, scalar_sort}
 
 module _ {A : Type 0} (spelled : A → Node) (back : Node → A) (again : (a : A) → back (spelled a) ≡ a)

@@ -1,10 +1,10 @@
 -- Where the JSON of a query has a fault. Nodes are numbered in preorder from 0, an object's members in their order; of
 -- members written with one name the last value is the one node that there is, in the first one's place.
-use Rattle.std.specs.Prelude.{ℕ, ◌≡◌, ◌+◌, ◌≤◌, List, ◌∷◌, ◌++◌, sum, sum_by}
+use Rattle.std.specs.Prelude.{ℕ, ◌≡◌, ◌+◌, ◌≤◌, List, [], ◌∷◌, ◌++◌, Some, None, sum, sum_by}
 use Rattle.doc_model.specs.declared.node.Node.{Node}
 use Rattle.doc_model.specs.declared.node.Node.TheOpen.{Node-F}
 use Rattle.doc_model.specs.declared.node.Node.TheFolds.{fold-Node}
-use Rattle.cts_meaning.specs.Shapes.{Part, HasShape}
+use Rattle.cts_meaning.specs.Shapes.{Part, parts_of}
 use Rattle.cts_meaning.specs.declared.shape.Shape.{Shape}
 use Rattle.cts_meaning.specs.declared.shape.Shape.TheVariants.{Query}
 
@@ -12,7 +12,10 @@ use Rattle.cts_meaning.specs.declared.shape.Shape.TheVariants.{Query}
 abbrev pub count_step : Node-F ℕ → ℕ
 count_step (Node-F.Items items) = 1 + sum items
 count_step (Node-F.Members members) = 1 + sum_by (λ member. member.1) members
-count_step _ = 1
+count_step Node-F.Null = 1
+count_step (Node-F.Bool b) = 1
+count_step (Node-F.Num units) = 1
+count_step (Node-F.Text text) = 1
 
 abbrev pub node_count : Node → ℕ
 node_count = fold-Node ℕ count_step
@@ -25,15 +28,19 @@ number_behind before = 1 + sum_by (λ part. node_count part.1) before
 -- itself, where it doesn't fit; or else of one in a part of it, judged as the part's shape. So nothing below a faulty
 -- node is judged
 pub data FaultIn : Shape → Node → ℕ → Type 0 where
-  here : (shape : Shape) (n : Node) (number : ℕ) → ((parts : List Part) → HasShape shape n parts → ⊥)
-      → number ≡ 0 → FaultIn shape n number
+  here : (shape : Shape) (n : Node) (number : ℕ) → parts_of shape n ≡ None → number ≡ 0 → FaultIn shape n number
   inside : (shape : Shape) (n : Node) (number : ℕ) (before behind : List Part) (part : Part) (inner : ℕ)
-      → HasShape shape n (before ++ part ∷ behind) → FaultIn part.0 part.1 inner
+      → parts_of shape n ≡ Some (before ++ part ∷ behind) → FaultIn part.0 part.1 inner
       → number ≡ number_behind before + inner → FaultIn shape n number
 
 -- nothing in the node is faulty
 abbrev pub IsFaultless : Shape → Node → Type 0
 IsFaultless shape n = (number : ℕ) → FaultIn shape n number → ⊥
+
+-- nor in any of the parts
+abbrev pub AreFaultless : List Part → Type 0
+AreFaultless [] = Unit {0}
+AreFaultless (part ∷ parts) = IsFaultless part.0 part.1 × AreFaultless parts
 
 -- the least number of a faulty node
 pub record IsFirstFault (shape : Shape) (n : Node) (number : ℕ) : Type 0 where

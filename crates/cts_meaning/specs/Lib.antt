@@ -1,3 +1,4 @@
+pub mod Kinds
 pub mod Shapes
 pub mod Faults
 pub mod Saying

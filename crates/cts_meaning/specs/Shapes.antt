@@ -1,16 +1,19 @@
 -- The JSON of queries: its forms, the members that each holds, and what may stand in each place.
-use Rattle.std.specs.Prelude.{ℕ, pos, ◌≡◌, ◌⊎◌, ◌≤◌, ◌*◌, ◌^◌, ◌||◌, Bool, true, false, nat_eq, List, [], ◌∷◌, map, Some, IsSome, IsTrue, codes}
-use Rattle.std.specs.List.{All, Contains, find, starts_with}
+use Rattle.std.specs.Prelude.{ℕ, ℤ, pos, negsuc, ◌*◌, ◌/◌, ◌%◌, ◌^◌, ◌==◌, ◌&&◌, ◌||◌, nat_le, Bool, true, false, nat_eq, List, [], ◌∷◌, map, length, Option, Some, None, is_some, codes, if◌then◌else◌}
+use Rattle.std.specs.List.{find, flat_map, list_all, list_any, starts_with}
+use Rattle.std.specs.Option.{option_map, option_map_or, option_to_list}
 use Rattle.std.specs.Str.{bytes_eq}
-use Rattle.doc_model.specs.Queries.{kind_of}
 use Rattle.doc_model.specs.Tree.{is_among}
 use Rattle.doc_model.specs.declared.node.Node.{Node}
+use Rattle.doc_model.specs.declared.node.Node.TheOpen.{Node-F}
 use Rattle.doc_model.specs.declared.node.Node.TheVariants as node
+use Rattle.doc_model.specs.declared.node.Node.TheViews.{out-Node}
 use Rattle.doc_model.specs.declared.query.Compare.{Compare}
 use Rattle.doc_model.specs.declared.query.Compare.TheVariants.{Lt, Le, Gt, Ge, Eq, Ne}
 use Rattle.doc_model.specs.declared.scalar.Scalar.{Scalar}
 use Rattle.doc_model.specs.declared.scalar.Scalar.TheVariants as scalar
-use Rattle.json_text.specs.Grammar.{Each, Member}
+use Rattle.json_text.specs.Grammar.{Member}
+use Rattle.cts_meaning.specs.Kinds.{text_in}
 use Rattle.cts_meaning.specs.declared.form.QueryForm.{QueryForm}
 use Rattle.cts_meaning.specs.declared.form.QueryForm.TheVariants as form
 use Rattle.cts_meaning.specs.declared.shape.OptionKind.{OptionKind}
@@ -34,6 +37,15 @@ form_name form.Near = codes "nearQuery"
 form_name form.Collection = codes "collectionQuery"
 form_name form.DocUri = codes "documentQuery"
 form_name form.Directory = codes "directoryQuery"
+
+abbrev pub forms : List QueryForm
+forms =
+    form.True ∷ form.False ∷ form.And ∷ form.Or ∷ form.Not ∷ form.AndNot ∷ form.Word ∷ form.PropWord ∷ form.PropValue
+    ∷ form.Range ∷ form.Near ∷ form.Collection ∷ form.DocUri ∷ form.Directory ∷ []
+
+-- the form of this name
+abbrev pub form_named : List ℕ → Option QueryForm
+form_named name = find (λ f. bytes_eq (form_name f) name) forms
 
 -- a member that the argument object of a form has, or may have
 pub record Field : Type 0 where
@@ -81,6 +93,13 @@ compare_text Ge = codes ">="
 compare_text Eq = codes "="
 compare_text Ne = codes "!="
 
+abbrev pub compares : List Compare
+compares = Lt ∷ Le ∷ Gt ∷ Ge ∷ Eq ∷ Ne ∷ []
+
+-- the comparison of this sign
+abbrev pub compare_named : List ℕ → Option Compare
+compare_named text = find (λ op. bytes_eq (compare_text op) text) compares
+
 -- a scalar as a node
 abbrev pub scalar_node : Scalar → Node
 scalar_node scalar.Null = node.Null
@@ -91,6 +110,15 @@ scalar_node (scalar.Text text) = node.Text text
 -- a whole number as a node, however it is written
 abbrev pub whole : ℕ → Node
 whole k = node.Num (pos (k * 10 ^ 18))
+
+-- the whole number that so many units of 10^-18 are, if it is at most this
+abbrev pub whole_units : ℕ → ℕ → Option ℕ
+whole_units most units =
+    if (units % 10 ^ 18 == 0) && nat_le (units / 10 ^ 18) most then Some (units / 10 ^ 18) else None
+
+abbrev pub whole_within : ℕ → ℤ → Option ℕ
+whole_within most (pos units) = whole_units most units
+whole_within most (negsuc n) = None
 
 -- the greatest distance
 abbrev pub greatest_distance : ℕ
@@ -113,60 +141,138 @@ is_option options.Word text = is_among both_cases text || is_language text
 is_option options.Value text = is_among both_cases text || bytes_eq text (codes "exact") || is_language text
 is_option options.Near text = is_among both_orders text
 
+-- a node is this text
+abbrev pub is_text : List ℕ → Node → Bool
+is_text wanted n = option_map_or (bytes_eq wanted) (text_in n) false
+
+-- this text is one of the items
+abbrev pub has_text : List Node → List ℕ → Bool
+has_text items wanted = list_any (is_text wanted) items
+
+-- both case options are among the items, or both order options, whatever query they are of
+abbrev pub has_rivals : List Node → Bool
+has_rivals items = list_all (has_text items) both_cases || list_all (has_text items) both_orders
+
 -- a node, and the shape as which it is judged
 abbrev pub Part : Type 0
 Part = Shape × Node
 
-abbrev pub IsText : Node → Type 0
-IsText n = (text : List ℕ) × (n ≡ node.Text text)
+-- what fits in a place: null and booleans; which numbers and texts; which arrays, with what their items are to be;
+-- which objects, with what the members of a name are to be
+pub record Rule : Type 0 where
+  pub flat : Bool
+  pub number : ℤ → Bool
+  pub text : List ℕ → Bool
+  pub array : List Node → Option Shape
+  pub member : List ℕ → Option Shape
+  pub members : List Member → Bool
 
-abbrev pub IsScalarNode : Node → Type 0
-IsScalarNode n = (s : Scalar) × (n ≡ scalar_node s)
+-- no array and no object
+abbrev pub scalars : Bool → (ℤ → Bool) → (List ℕ → Bool) → Rule
+scalars flat number text = record {
+  flat = flat;
+  number = number;
+  text = text;
+  array = λ items. None;
+  member = λ name. None;
+  members = λ members. false;
+}
 
--- a number or a text, which range queries order
-abbrev pub IsComparable : Node → Type 0
-IsComparable n = (s : Scalar) × IsSome (kind_of s) × (n ≡ scalar_node s)
+-- such a scalar, or an array of items of this shape
+abbrev pub scalars_or : Shape → Bool → (ℤ → Bool) → (List ℕ → Bool) → Rule
+scalars_or item flat number text = record {
+  flat = flat;
+  number = number;
+  text = text;
+  array = λ items. Some item;
+  member = λ name. None;
+  members = λ members. false;
+}
 
--- an array, whose items are to be of this shape
-abbrev pub IsArrayOf : Shape → Node → List Part → Type 0
-IsArrayOf item n parts = (items : List Node) × (n ≡ node.Items items) × (parts ≡ map (λ i. (item, i)) items)
+abbrev pub arrays : (List Node → Option Shape) → Rule
+arrays array = record {
+  flat = false;
+  number = λ units. false;
+  text = λ text. false;
+  array = array;
+  member = λ name. None;
+  members = λ members. false;
+}
 
--- all of these options are among the items
-abbrev pub HasEach : List (List ℕ) → List Node → Type 0
-HasEach wanted items = All (λ text. Contains items (node.Text text)) wanted
+abbrev pub objects : (List ℕ → Option Shape) → (List Member → Bool) → Rule
+objects member members = record {
+  flat = false;
+  number = λ units. false;
+  text = λ text. false;
+  array = λ items. None;
+  member = member;
+  members = members;
+}
 
--- both case options are among the items, or both order options, whatever query they are of
-abbrev pub HasRivals : Node → Type 0
-HasRivals n = (items : List Node) × (n ≡ node.Items items) × (HasEach both_cases items ⊎ HasEach both_orders items)
+-- texts of which this holds, and nothing else
+abbrev pub texts : (List ℕ → Bool) → Rule
+texts test = scalars false (λ units. false) test
 
--- a member has a field's name, and its value is to be of the field's shape
-abbrev pub IsField : List Field → Member → Part → Type 0
-IsField fields member part =
-    (field : Field) × (find (λ f. bytes_eq f.name member.0) fields ≡ Some field) × (part ≡ (field.shape, member.1))
+-- what the member of this name is to be, in an object with these fields
+abbrev pub field_shape : List Field → List ℕ → Option Shape
+field_shape fields name = option_map (λ field. field.shape) (find (λ field. bytes_eq field.name name) fields)
 
--- no field is missing that may not be left out
-abbrev pub HasRequired : List Field → List Member → Type 0
-HasRequired fields members =
-    All (λ field. IsTrue (field.optional || is_among (map (λ m. m.0) members) field.name)) fields
+-- the field may be left out, or is there
+abbrev pub is_given : List Member → Field → Bool
+is_given members field = field.optional || is_among (map (λ m. m.0) members) field.name
 
--- the node itself fits the shape, whatever its parts are: these, each with the shape as which it is judged
-abbrev pub HasShape : Shape → Node → List Part → Type 0
-HasShape shape.Query n parts =
-    (f : QueryForm) × (argument : Node) × (n ≡ node.Members ((form_name f, argument) ∷ []))
-    × (parts ≡ (shape.Argument f, argument) ∷ [])
-HasShape (shape.Argument f) n parts =
-    (members : List Member) × (n ≡ node.Members members) × HasRequired (fields_of f) members
-    × Each (IsField (fields_of f)) members parts
-HasShape shape.Queries n parts = IsArrayOf shape.Query n parts
-HasShape shape.Texts n parts = IsArrayOf shape.Text n parts ⊎ (IsText n × (parts ≡ []))
-HasShape shape.Text n parts = IsText n × (parts ≡ [])
-HasShape shape.Scalars n parts = IsArrayOf shape.Scalar n parts ⊎ (IsScalarNode n × (parts ≡ []))
-HasShape shape.Scalar n parts = IsScalarNode n × (parts ≡ [])
-HasShape shape.Comparables n parts = IsArrayOf shape.Comparable n parts ⊎ (IsComparable n × (parts ≡ []))
-HasShape shape.Comparable n parts = IsComparable n × (parts ≡ [])
-HasShape shape.Compare n parts = ((op : Compare) × (n ≡ node.Text (compare_text op))) × (parts ≡ [])
-HasShape shape.Distance n parts = ((k : ℕ) × (k ≤ greatest_distance) × (n ≡ whole k)) × (parts ≡ [])
-HasShape shape.Depth n parts = ((n ≡ node.Text (codes "1")) ⊎ (n ≡ node.Text (codes "infinity"))) × (parts ≡ [])
-HasShape (shape.Options kind) n parts = IsArrayOf (shape.Option kind) n parts × (HasRivals n → ⊥)
-HasShape (shape.Option kind) n parts =
-    ((text : List ℕ) × IsTrue (is_option kind text) × (n ≡ node.Text text)) × (parts ≡ [])
+-- each shape's rule
+abbrev pub rule_of : Shape → Rule
+rule_of shape.Query =
+    objects (λ name. option_map (λ f. shape.Argument f) (form_named name)) (λ members. length members == 1)
+rule_of (shape.Argument f) =
+    objects (field_shape (fields_of f)) (λ members. list_all (is_given members) (fields_of f))
+rule_of shape.Queries = arrays (λ items. Some shape.Query)
+rule_of shape.Texts = scalars_or shape.Text false (λ units. false) (λ text. true)
+rule_of shape.Text = texts (λ text. true)
+rule_of shape.Scalars = scalars_or shape.Scalar true (λ units. true) (λ text. true)
+rule_of shape.Scalar = scalars true (λ units. true) (λ text. true)
+rule_of shape.Comparables = scalars_or shape.Comparable false (λ units. true) (λ text. true)
+rule_of shape.Comparable = scalars false (λ units. true) (λ text. true)
+rule_of shape.Compare = texts (λ text. is_some (compare_named text))
+rule_of shape.Distance = scalars false (λ units. is_some (whole_within greatest_distance units)) (λ text. false)
+rule_of shape.Depth = texts (λ text. bytes_eq text (codes "1") || bytes_eq text (codes "infinity"))
+rule_of (shape.Options kind) = arrays (λ items. if has_rivals items then None else Some (shape.Option kind))
+rule_of (shape.Option kind) = texts (is_option kind)
+
+-- the items of an array, each judged as this shape
+abbrev pub item_parts : Shape → List Node → List Part
+item_parts item items = map (λ i. (item, i)) items
+
+-- the values of members, each judged as what its name asks
+abbrev pub member_part : (List ℕ → Option Shape) → Member → List Part
+member_part asked member = option_to_list (option_map (λ part. (part, member.1)) (asked member.0))
+
+abbrev pub member_parts : (List ℕ → Option Shape) → List Member → List Part
+member_parts asked members = flat_map (member_part asked) members
+
+-- no member has an unknown name, and none is missing
+abbrev pub fits_object : Rule → List Member → Bool
+fits_object rule members = rule.members members && list_all (λ m. is_some (rule.member m.0)) members
+
+-- the parts of a scalar, an array and an object that fit
+abbrev pub no_parts : Bool → Option (List Part)
+no_parts fits = if fits then Some [] else None
+
+abbrev pub array_parts : Rule → List Node → Option (List Part)
+array_parts rule items = option_map (λ item. item_parts item items) (rule.array items)
+
+abbrev pub object_parts : Rule → List Member → Option (List Part)
+object_parts rule members = if fits_object rule members then Some (member_parts rule.member members) else None
+
+abbrev pub parts_by : Rule → Node-F Node → Option (List Part)
+parts_by rule Node-F.Null = no_parts rule.flat
+parts_by rule (Node-F.Bool b) = no_parts rule.flat
+parts_by rule (Node-F.Num units) = no_parts (rule.number units)
+parts_by rule (Node-F.Text text) = no_parts (rule.text text)
+parts_by rule (Node-F.Items items) = array_parts rule items
+parts_by rule (Node-F.Members members) = object_parts rule members
+
+-- the parts of a node that fits its shape, each with the shape as which it is judged, whatever these parts are
+abbrev pub parts_of : Shape → Node → Option (List Part)
+parts_of shape n = parts_by (rule_of shape) (out-Node n)

@@ -1,6 +1,4 @@
 pub mod Tabled
-pub mod Fits
-pub mod Misfits
 pub mod Walk
 pub mod Looked
 pub mod Said

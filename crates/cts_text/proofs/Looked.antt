@@ -15,16 +15,17 @@ use Rattle.doc_model.specs.declared.scalar.Scalar.{Scalar}
 use Rattle.doc_model.specs.declared.scalar.Scalar.TheVariants as scalar
 use Rattle.json_text.specs.Grammar.{Member}
 use Rattle.cts_meaning.specs.Faults.{IsFaultless}
+use Rattle.cts_meaning.specs.Kinds.{items_by, items_in, number_by, number_in, text_by, text_in}
 use Rattle.cts_meaning.specs.Saying.{AreOptions, AreScalars, AreTexts, case_of, depth_text, IsCompare, IsDepth, IsDistance, value_of}
-use Rattle.cts_meaning.specs.Shapes.{compare_text, greatest_distance, scalar_node, whole}
+use Rattle.cts_meaning.specs.Shapes.{compare_named, compare_text, greatest_distance, has_text, is_text, scalar_node, whole, whole_within}
 use Rattle.cts_meaning.specs.declared.shape.Shape.TheVariants as shape
-use Rattle.cts_meaning.proofs.Judging.{clean_node}
+use Rattle.cts_meaning.proofs.Named.{compare_of_text}
 use Rattle.cts_meaning.proofs.Values.{one_distance}
+use Rattle.cts_meaning.proofs.SaidValues.{distance_read as distance_said}
+use Rattle.cts_meaning.proofs.Wholes.{whole_back}
+use Rattle.cts_meaning.proofs.Written.{has_among, is_text_text}
 use Rattle.cts_meaning.proofs.Nodes.{out_bool, out_items, out_null, out_number, out_text}
-use Rattle.cts_text.specs.Kinds.{items_by, items_in, number_by, number_in, text_by, text_in}
-use Rattle.cts_text.specs.Tables.{compare_named, has_text, is_text, whole_distance}
 use Rattle.cts_text.specs.Values.{case_in, compare_in, distance_in, has_option, is_infinite, own_scalar, own_text, scalar_by, scalars_in, scalars_of, texts_in, texts_of}
-use Rattle.cts_text.proofs.Tabled.{compare_back, whole_back}
 
 -- ---- texts
 
@@ -107,16 +108,6 @@ scalars_read members name values are = scalars_at (value_of name members) values
 
 -- ---- options
 
-is_text_text : (wanted text : List ℕ) → is_text wanted (node.Text text) ≡ bytes_eq wanted text
-is_text_text wanted text =
-    ap (λ (o : Option (List ℕ)). option_map_or (bytes_eq wanted) o false) (text_in_text text)
-
-has_among : (wanted : List ℕ) (given : List (List ℕ)) → has_text (map node.Text given) wanted ≡ is_among given wanted
-has_among wanted [] = refl
-has_among wanted (text ∷ given) =
-    ap (λ (b : Bool). b || has_text (map node.Text given) wanted) (is_text_text wanted text)
-    ∙ ap (λ (b : Bool). bytes_eq wanted text || b) (has_among wanted given)
-
 abbrev option_at : List ℕ → Option Node → Bool
 option_at wanted found = option_map_or (λ items. has_text items wanted) (option_and_then items_in found) false
 
@@ -154,22 +145,22 @@ pub compare_read : (members : List Member) (op : Compare) → IsCompare (value_o
 compare_read members op is =
     ap compare_at is
     ∙ ap (λ (o : Option (List ℕ)). unwrap_or (option_and_then compare_named o) Eq) (text_in_text (compare_text op))
-    ∙ ap (λ (o : Option Compare). unwrap_or o Eq) (compare_back op)
+    ∙ ap (λ (o : Option Compare). unwrap_or o Eq) (compare_of_text op)
 
 abbrev distance_at : Option Node → ℕ
-distance_at found = unwrap_or (option_and_then whole_distance (option_and_then number_in found)) 10
+distance_at found = unwrap_or (option_and_then (whole_within greatest_distance) (option_and_then number_in found)) 10
 
 distance_whole : (k : ℕ) → k ≤ greatest_distance → distance_at (Some (whole k)) ≡ k
 distance_whole k small =
-    ap (λ (o : Option ℤ). unwrap_or (option_and_then whole_distance o) 10)
+    ap (λ (o : Option ℤ). unwrap_or (option_and_then (whole_within greatest_distance) o) 10)
     (ap number_by (out_number (pos (k * 10 ^ 18))))
-    ∙ ap (λ (o : Option ℕ). unwrap_or o 10) (whole_back k small)
+    ∙ ap (λ (o : Option ℕ). unwrap_or o 10) (whole_back greatest_distance k small)
 
 distance_by : (found : Option Node) (distance : ℕ) → ((n : Node) → found ≡ Some n → IsFaultless shape.Distance n) →
     IsDistance found distance → distance_at found ≡ distance
 distance_by None distance clean is = sym is
 distance_by (Some n) distance clean is =
-    let whole = (clean_node shape.Distance n (clean n refl)).fits.0 in
+    let whole = distance_said n (clean n refl) in
     ap (λ (m : Node). distance_at (Some m)) whole.2 ∙ distance_whole whole.0 whole.1
     ∙ one_distance (Some n) whole.0 distance whole.2 is
 

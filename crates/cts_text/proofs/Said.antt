@@ -11,16 +11,15 @@ use Rattle.doc_model.specs.declared.scalar.Scalar.{Scalar}
 use Rattle.json_text.specs.Grammar.{Member}
 use Rattle.cts_meaning.specs.Faults.{IsFaultless}
 use Rattle.cts_meaning.specs.Saying.{case_of, value_of}
-use Rattle.cts_meaning.specs.Shapes.{fields_of, needs}
+use Rattle.cts_meaning.specs.Shapes.{field_shape, fields_of, needs}
 use Rattle.cts_meaning.specs.declared.form.QueryForm.{QueryForm}
 use Rattle.cts_meaning.specs.declared.form.QueryForm.TheVariants as form
 use Rattle.cts_meaning.specs.declared.shape.Shape.{Shape}
 use Rattle.cts_meaning.specs.declared.shape.Shape.TheVariants as shape
-use Rattle.cts_meaning.proofs.Judging.{clean_node}
+use Rattle.cts_meaning.proofs.EachJudged.{argument_object}
 use Rattle.cts_meaning.proofs.Members.{allowed, Argument, needed}
 use Rattle.cts_meaning.proofs.Named.{same_some}
 use Rattle.cts_meaning.proofs.Nodes.{members_in, members_in_object}
-use Rattle.cts_meaning.proofs.Parts.{field_named}
 use Rattle.cts_text.specs.Saids.{AreSaidAt, IsSaidAs, IsSaidAt}
 use Rattle.cts_text.specs.Values.{case_in, compare_in, distance_in, has_option, is_infinite, scalars_in, texts_in}
 use Rattle.cts_text.proofs.Looked.{case_read, compare_read, distance_read, infinite_read, option_read, scalars_read, texts_read}
@@ -30,14 +29,12 @@ same_members ms others is = sym (members_in_object ms) ∙ ap members_in is ∙ 
 
 argument : (f : QueryForm) (ms : List Member) → IsFaultless (shape.Argument f) (node.Members ms) → Argument f ms
 argument f ms clean =
-    let c = clean_node (shape.Argument f) (node.Members ms) clean in
-    let fits : Argument f c.fits.0 =
-    record { required = c.fits.2; parts = c.parts; each = c.fits.3; clean = c.clean } in
-    subst (Argument f) (sym (same_members ms c.fits.0 c.fits.1)) fits
+    let a = argument_object f (node.Members ms) clean in
+    subst (Argument f) (sym (same_members ms a.members a.is)) a.fits
 
 -- the value of a member that is needed has no fault as its field's shape
 needed_clean : (f : QueryForm) (ms : List Member) (name : List ℕ) (wanted : Shape) (k : ℕ) →
-    field_named (fields_of f) name ≡ Some (needs name wanted) → k < length (fields_of f) →
+    field_shape (fields_of f) name ≡ Some wanted → k < length (fields_of f) →
     get_or (fields_of f) k (needs name wanted) ≡ needs name wanted →
     IsFaultless (shape.Argument f) (node.Members ms) → (n : Node) → value_of name ms ≡ Some n → IsFaultless wanted n
 needed_clean f ms name wanted k e lt at_k clean n v =

@@ -8,11 +8,10 @@ use Rattle.std.specs.Option.{option_map, option_to_list}
 use Rattle.doc_model.specs.declared.node.Node.{Node}
 use Rattle.doc_model.specs.declared.query.Query.{Query}
 use Rattle.json_text.specs.Grammar.{Member}
-use Rattle.cts_meaning.specs.Shapes.{Part}
+use Rattle.cts_meaning.specs.Shapes.{item_parts, member_parts, Part}
 use Rattle.cts_meaning.specs.declared.shape.Shape.{Shape}
-use Rattle.cts_text.specs.Judging.{item_parts, Judges, JudgesParts, member_parts}
+use Rattle.cts_text.specs.Judging.{Judges, JudgesParts}
 use Rattle.cts_text.specs.Saids.{AreSaid, IsSaid}
-use Rattle.cts_text.specs.Tables.{member_shape}
 use Rattle.cts_text.proofs.Told.{cons_said, none_said}
 use Rattle.cts_text.proofs.Walk.{judged_more, judged_none, judged_stop}
 
@@ -82,32 +81,32 @@ module _ (wanted : Shape) (items slice : List Node) (i : ℕ) (item : Node) (nex
 
 -- ---- members
 
-module _ (wanted : Shape) (members slice : List Member) (i : ℕ) (member : Member) (next number : ℕ)
+module _ (asked : List ℕ → Option Shape) (members slice : List Member) (i : ℕ) (member : Member) (next number : ℕ)
     (same : slice ≡ members) (lt : i < length slice) (is : member ≡ get_or slice i member)
-    (goes : Goes (member_parts wanted (drop i members)) next (member_parts wanted members) number) where
+    (goes : Goes (member_parts asked (drop i members)) next (member_parts asked members) number) where
   abbrev parts_with : Option Shape → List Part
-  parts_with o = option_to_list (option_map (λ part. (part, member.1)) o) ++ member_parts wanted (drop (i + 1) members)
+  parts_with o = option_to_list (option_map (λ part. (part, member.1)) o) ++ member_parts asked (drop (i + 1) members)
 
-  split_member : (o : Option Shape) → member_shape wanted member.0 ≡ o →
-      member_parts wanted (drop i members) ≡ parts_with o
-  split_member o e = ap (member_parts wanted) (drop_step members slice i member same lt is) ∙ ap parts_with e
+  split_member : (o : Option Shape) → asked member.0 ≡ o →
+      member_parts asked (drop i members) ≡ parts_with o
+  split_member o e = ap (member_parts asked) (drop_step members slice i member same lt is) ∙ ap parts_with e
 
-  pub members_skip : member_shape wanted member.0 ≡ None →
-      Goes (member_parts wanted (drop (i + 1) members)) next (member_parts wanted members) number
+  pub members_skip : asked member.0 ≡ None →
+      Goes (member_parts asked (drop (i + 1) members)) next (member_parts asked members) number
   members_skip e answer more =
       goes answer (subst (λ (ps : List Part). JudgesParts ps next answer) (sym (split_member None e)) more)
 
-  pub members_more : (part : Shape) (later : ℕ) → member_shape wanted member.0 ≡ Some part →
+  pub members_more : (part : Shape) (later : ℕ) → asked member.0 ≡ Some part →
       Judges part member.1 next (Ok later) →
-      Goes (member_parts wanted (drop (i + 1) members)) later (member_parts wanted members) number
-  members_more part later e one = goes_more (part, member.1) (member_parts wanted (drop (i + 1) members))
-      (member_parts wanted (drop i members)) (member_parts wanted members) next later number
+      Goes (member_parts asked (drop (i + 1) members)) later (member_parts asked members) number
+  members_more part later e one = goes_more (part, member.1) (member_parts asked (drop (i + 1) members))
+      (member_parts asked (drop i members)) (member_parts asked members) next later number
       (split_member (Some part) e) goes one
 
-  pub members_stop : (part : Shape) (faulty : ℕ) → member_shape wanted member.0 ≡ Some part →
-      Judges part member.1 next (Err faulty) → JudgesParts (member_parts wanted members) number (Err faulty)
-  members_stop part faulty e one = goes_stop (part, member.1) (member_parts wanted (drop (i + 1) members))
-      (member_parts wanted (drop i members)) (member_parts wanted members) next faulty number
+  pub members_stop : (part : Shape) (faulty : ℕ) → asked member.0 ≡ Some part →
+      Judges part member.1 next (Err faulty) → JudgesParts (member_parts asked members) number (Err faulty)
+  members_stop part faulty e one = goes_stop (part, member.1) (member_parts asked (drop (i + 1) members))
+      (member_parts asked (drop i members)) (member_parts asked members) next faulty number
       (split_member (Some part) e) goes one
 
 -- ---- queries

@@ -2,22 +2,20 @@
 use Rattle.std.proofs.Common.{◌≡◌, ℕ, zero, suc, List, [], ◌∷◌, Option, Some, None, refl, sym, ap, subst, ◌∙◌, ◌<◌, ◌≤◌, get_or, length, Result, Ok, Err, IfOk, arith}
 use Rattle.doc_model.specs.declared.node.Node.{Node}
 use Rattle.doc_model.specs.declared.node.Node.TheVariants as node
+use Rattle.doc_model.specs.declared.node.Node.TheViews.{out-Node}
 use Rattle.doc_model.specs.declared.query.Query.{Query}
 use Rattle.json_text.specs.Grammar.{Each, Member}
 use Rattle.cts_meaning.specs.Faults.{IsFaultless}
 use Rattle.cts_meaning.specs.Saying.{Says, SaysAs}
-use Rattle.cts_meaning.specs.Shapes.{form_name, Part}
+use Rattle.cts_meaning.specs.Shapes.{form_name, form_named, item_parts, parts_by, rule_of}
 use Rattle.cts_meaning.specs.declared.form.QueryForm.{QueryForm}
 use Rattle.cts_meaning.specs.declared.shape.Shape.TheVariants as shape
+use Rattle.cts_meaning.proofs.Entries.{clean_argument}
 use Rattle.cts_meaning.proofs.Least.{parts_faultless}
-use Rattle.cts_meaning.proofs.Least.{AreFaultless as AreClean}
-use Rattle.cts_meaning.proofs.Named.{same_some}
-use Rattle.cts_meaning.proofs.Nodes.{items_in, items_in_array}
-use Rattle.cts_text.specs.Judging.{AreFaultless, item_parts}
+use Rattle.cts_meaning.proofs.Named.{form_of_name, same_some}
+use Rattle.cts_meaning.proofs.Nodes.{items_in, items_in_array, out_items}
 use Rattle.cts_text.specs.Saids.{AreSaid, AreSaidAt, IsSaid, IsSaidAt, IsSaidBy}
-use Rattle.cts_text.specs.Tables.{form_named}
 use Rattle.cts_text.proofs.Said.{same_members}
-use Rattle.cts_text.proofs.Tabled.{form_back}
 
 -- ---- objects
 
@@ -38,11 +36,10 @@ object_said ms m f r one named by clean zero said says = absurd says
 object_said ms m f r one named by clean (suc depth) said (g, args, is, says) =
     let argument : Node = node.Members args in
     let first = first_same m (form_name g, argument) (sym one ∙ same_members ms ((form_name g, argument) ∷ []) is) in
-    let form = same_some f g (sym named ∙ ap (λ (k : Member). form_named k.0) first ∙ form_back g) in
-    let parts = parts_faultless shape.Query (node.Members ms) ((shape.Argument g, argument) ∷ [])
-    (g, argument, is, refl) clean in
+    let form = same_some f g (sym named ∙ ap (λ (k : Member). form_named k.0) first ∙ form_of_name g) in
+    let inner = clean_argument g argument (subst (IsFaultless shape.Query) is clean) in
     as_of f g args r said depth form (subst (λ (n : Node). IsSaidBy f n r) (ap (λ (k : Member). k.1) first) by)
-    parts.0 says
+    inner says
 
 -- no query
 pub unnamed_said : (ms : List Member) (m : Member) (r : Query) → ms ≡ m ∷ [] → form_named m.0 ≡ None →
@@ -52,7 +49,7 @@ unnamed_said ms m r one named clean zero said says = absurd says
 unnamed_said ms m r one named clean (suc depth) said (g, args, is, says) =
     let first = first_same m (form_name g, node.Members args)
     (sym one ∙ same_members ms ((form_name g, node.Members args) ∷ []) is) in
-    let none : None ≡ Some g = sym named ∙ ap (λ (k : Member). form_named k.0) first ∙ form_back g in
+    let none : None ≡ Some g = sym named ∙ ap (λ (k : Member). form_named k.0) first ∙ form_of_name g in
     absurd cc
 
 pub other_length_said : (ms : List Member) (r : Query) → (length ms ≡ 1 → ⊥) → IsSaid (node.Members ms) r
@@ -80,15 +77,11 @@ pub no_children_said : (found : Option Node) (r : List Query) → found ≡ None
 no_children_said found r e clean depth qs (items, is, says) =
     let none : None ≡ Some (node.Items items) = sym e ∙ is in absurd cc
 
-children_clean : (parts : List Part) → AreClean parts → AreFaultless parts
-children_clean [] clean = tt
-children_clean (part ∷ parts) clean = (clean.0, children_clean parts clean.1)
-
 pub array_said : (n : Node) (items : List Node) (r : List Query) → n ≡ node.Items items → AreSaid items r →
     AreSaidAt (Some n) r
 array_said n items r is are clean depth qs (others, at, says) =
-    let inner = children_clean (item_parts shape.Query items)
-    (parts_faultless shape.Queries n (item_parts shape.Query items) (items, is, refl) (clean n refl)) in
+    let inner = parts_faultless shape.Queries n (item_parts shape.Query items)
+    (ap (parts_by (rule_of shape.Queries)) (ap out-Node is ∙ out_items items)) (clean n refl) in
     let same = sym (items_in_array items) ∙ ap items_in (sym is ∙ same_some n (node.Items others) at)
     ∙ items_in_array others in
     are inner depth qs (subst (λ (ns : List Node). Each (Says depth) ns qs) (sym same) says)

@@ -1,19 +1,15 @@
 -- A walk over the parts of a node, in their order, finds its first fault.
-use Rattle.std.proofs.Common.{◌≡◌, ℕ, ◌+◌, List, [], ◌∷◌, Option, Some, None, is_some, Result, Ok, Err, refl, sym, ap, subst, ◌∙◌, arith}
-use Rattle.std.proofs.lemmas.Bool.{both_ways}
+use Rattle.std.proofs.Common.{◌≡◌, ℕ, ◌+◌, List, [], ◌∷◌, Option, Some, None, Result, Ok, Err, refl, sym, ap, subst, ◌∙◌, arith}
 use Rattle.std.proofs.lemmas.List.Sums.{sum_by-cons}
 use Rattle.doc_model.specs.declared.node.Node.{Node}
 use Rattle.doc_model.specs.declared.node.Node.TheOpen.{Node-F}
 use Rattle.doc_model.specs.declared.node.Node.TheViews.{out-Node}
 use Rattle.cts_meaning.specs.Faults.{IsFirstFault, node_count}
-use Rattle.cts_meaning.specs.Shapes.{HasShape, Part}
+use Rattle.cts_meaning.specs.Shapes.{Part, parts_by, parts_of, rule_of}
 use Rattle.cts_meaning.specs.declared.shape.Shape.{Shape}
 use Rattle.cts_meaning.proofs.Least.{faultless_of, first_here, first_of_parts}
-use Rattle.cts_meaning.proofs.Least.{AreFaultless as AreClean}
 use Rattle.cts_meaning.proofs.Parts.{count_of_parts}
-use Rattle.cts_text.specs.Judging.{AreFaultless, Judges, JudgesBy, JudgesParts, parts_by}
-use Rattle.cts_text.proofs.Fits.{fits_with}
-use Rattle.cts_text.proofs.Misfits.{are_told}
+use Rattle.cts_text.specs.Judging.{Judges, JudgesBy, JudgesParts}
 
 -- ---- a step
 
@@ -60,42 +56,26 @@ judged_none number = (tt, omega arith)
 
 -- ---- a node
 
-clean_of : (parts : List Part) → AreFaultless parts → AreClean parts
-clean_of [] clean = tt
-clean_of (part ∷ parts) clean = (clean.0, clean_of parts clean.1)
-
 judged_fit : (wanted : Shape) (n : Node) (number : ℕ) (parts : List Part) (answer : Result ℕ ℕ) →
-    HasShape wanted n parts → JudgesParts parts (number + 1) answer → Judges wanted n number answer
+    parts_of wanted n ≡ Some parts → JudgesParts parts (number + 1) answer → Judges wanted n number answer
 judged_fit wanted n number parts (Ok next) fits (clean, is) =
-    (faultless_of wanted n parts fits (clean_of parts clean), omega (arith, is, count_of_parts wanted n parts fits))
+    (faultless_of wanted n parts fits clean, omega (arith, is, count_of_parts wanted n parts fits))
 judged_fit wanted n number parts (Err faulty) fits (inner, first, at) = (
   1 + inner,
   subst (λ (k : ℕ). IsFirstFault wanted n k) (omega (arith, first.is))
       (first_of_parts wanted n first.before first.behind first.part first.inner
-      (subst (HasShape wanted n) first.are fits) (clean_of first.before first.clean) first.first),
+      (fits ∙ ap (λ (ps : List Part). Some ps) first.are) first.clean first.first),
   omega (arith, at),
 )
 
-judged_misfit : (wanted : Shape) (n : Node) (number : ℕ) (answer : Result ℕ ℕ) →
-    ((parts : List Part) → HasShape wanted n parts → ⊥) → answer ≡ Err number → Judges wanted n number answer
-judged_misfit wanted n number answer misfit is =
-    subst (Judges wanted n number) (sym is) (0, first_here wanted n misfit, omega arith)
-
-untold : (wanted : Shape) (n : Node) (parts : List Part) → parts_by wanted (out-Node n) ≡ None →
-    HasShape wanted n parts → ⊥
-untold wanted n parts e fits =
-    both_ways (is_some (parts_by wanted (out-Node n))) (ap (λ (o : Option (List Part)). is_some o) e)
-    (are_told wanted n parts fits)
-
 judged_by : (wanted : Shape) (n : Node) (number : ℕ) (answer : Result ℕ ℕ) (o : Option (List Part)) →
-    parts_by wanted (out-Node n) ≡ o → JudgesBy o number answer → Judges wanted n number answer
-judged_by wanted n number answer None e is =
-    judged_misfit wanted n number answer (λ parts fits. untold wanted n parts e fits) is
-judged_by wanted n number answer (Some parts) e judged =
-    judged_fit wanted n number parts answer (fits_with wanted n parts e) judged
+    parts_of wanted n ≡ o → JudgesBy o number answer → Judges wanted n number answer
+judged_by wanted n number answer None misfit is =
+    subst (Judges wanted n number) (sym is) (0, first_here wanted n misfit, omega arith)
+judged_by wanted n number answer (Some parts) fits judged = judged_fit wanted n number parts answer fits judged
 
 -- a node is judged by what its layer tells of its parts
 pub judged : (wanted : Shape) (n : Node) (y : Node-F Node) (number : ℕ) (answer : Result ℕ ℕ) → out-Node n ≡ y →
-    JudgesBy (parts_by wanted y) number answer → Judges wanted n number answer
+    JudgesBy (parts_by (rule_of wanted) y) number answer → Judges wanted n number answer
 judged wanted n y number answer is by =
-    judged_by wanted n number answer (parts_by wanted y) (ap (parts_by wanted) is) by
+    judged_by wanted n number answer (parts_by (rule_of wanted) y) (ap (parts_by (rule_of wanted)) is) by

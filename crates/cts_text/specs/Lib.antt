@@ -1,5 +1,3 @@
-pub mod Kinds
-pub mod Tables
 pub mod Values
 pub mod Judging
 pub mod Saids

@@ -4,11 +4,11 @@ use Rattle.doc_model.specs.declared.node.Node.{Node}
 use Rattle.doc_model.specs.declared.node.Node.TheVariants as node
 use Rattle.doc_model.specs.declared.query.Query.{Query}
 use Rattle.json_text.specs.Grammar.{Each, Member}
-use Rattle.cts_meaning.specs.Faults.{IsFaultless}
+use Rattle.cts_meaning.specs.Faults.{AreFaultless, IsFaultless}
 use Rattle.cts_meaning.specs.Saying.{AreChildren, IsChild, Says, SaysAs}
+use Rattle.cts_meaning.specs.Shapes.{item_parts}
 use Rattle.cts_meaning.specs.declared.form.QueryForm.{QueryForm}
 use Rattle.cts_meaning.specs.declared.shape.Shape.TheVariants as shape
-use Rattle.cts_text.specs.Judging.{AreFaultless, item_parts}
 
 -- of a tree
 abbrev pub IsSaid : Node → Query → Type 0

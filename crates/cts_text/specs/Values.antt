@@ -12,9 +12,9 @@ use Rattle.doc_model.specs.declared.query.Compare.TheVariants.{Eq}
 use Rattle.doc_model.specs.declared.scalar.Scalar.{Scalar}
 use Rattle.doc_model.specs.declared.scalar.Scalar.TheVariants as scalar
 use Rattle.json_text.specs.Grammar.{Member}
+use Rattle.cts_meaning.specs.Kinds.{items_in, number_in, text_in}
 use Rattle.cts_meaning.specs.Saying.{value_of}
-use Rattle.cts_text.specs.Kinds.{items_in, number_in, text_in}
-use Rattle.cts_text.specs.Tables.{compare_named, has_text, is_text, whole_distance}
+use Rattle.cts_meaning.specs.Shapes.{compare_named, greatest_distance, has_text, is_text, whole_within}
 
 -- the text that a node is
 abbrev pub own_text : Node → List (List ℕ)
@@ -33,7 +33,8 @@ scalar_by Node-F.Null = scalar.Null ∷ []
 scalar_by (Node-F.Bool b) = scalar.Bool b ∷ []
 scalar_by (Node-F.Num units) = scalar.Num units ∷ []
 scalar_by (Node-F.Text text) = scalar.Text text ∷ []
-scalar_by _ = []
+scalar_by (Node-F.Items items) = []
+scalar_by (Node-F.Members members) = []
 
 abbrev pub own_scalar : Node → List Scalar
 own_scalar n = scalar_by (out-Node n)
@@ -63,7 +64,7 @@ compare_in members =
 -- 10 where there is no distance
 abbrev pub distance_in : List Member → ℕ
 distance_in members =
-    unwrap_or (option_and_then whole_distance (option_and_then number_in (value_of (codes "distance") members))) 10
+    unwrap_or (option_and_then (whole_within greatest_distance) (option_and_then number_in (value_of (codes "distance") members))) 10
 
 abbrev pub is_infinite : List Member → Bool
 is_infinite members = option_map_or (is_text (codes "infinity")) (value_of (codes "depth") members) false

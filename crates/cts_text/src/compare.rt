@@ -1,7 +1,6 @@
 // The signs of comparisons, both ways.
 ghost use Rattle.std.specs.Prelude.{◌≡◌};
-ghost use Rattle.cts_meaning.specs.Shapes.{compare_text};
-ghost use Rattle.cts_text.specs.Tables.{compare_named};
+ghost use Rattle.cts_meaning.specs.Shapes.{compare_named, compare_text};
 
 use doc_model::Compare;
 

@@ -1,19 +1,18 @@
-// Whether a node itself fits a shape, whatever its parts are.
+// Whether a node itself fits a shape, whatever its parts are: the rules of the shapes.
 ghost use Rattle.std.specs.Prelude.{◌≡◌, is_some};
 ghost use Rattle.std.specs.List.{list_all};
-ghost use Rattle.cts_text.specs.Tables.{fits_object, flat_fits, has_members, item_shape, member_shape, number_fits, text_fits};
+ghost use Rattle.cts_meaning.specs.Shapes.{fits_object, rule_of};
 
 use crate::compare::compare_named;
 use crate::distance::whole_distance;
-use crate::fields::{field_shape, has_required};
-use crate::names::form_named;
+use crate::forms::{field_shape, form_named, is_complete};
 use crate::options::{has_rivals, is_option};
 use cts_meaning::Shape;
 use doc_model::{Dec, Members, Node, Nodes, Text};
 
 /// Null, true and false.
 pub(crate) fn flat_fits(shape: Shape) -> bool
-    ensures { result ≡ flat_fits shape }
+    ensures { result ≡ (rule_of shape).flat }
 {
     match shape {
         Shape::Scalars | Shape::Scalar => true,
@@ -22,7 +21,7 @@ pub(crate) fn flat_fits(shape: Shape) -> bool
 }
 
 pub(crate) fn number_fits(shape: Shape, number: &Dec) -> bool
-    ensures { result ≡ number_fits shape number.now }
+    ensures { result ≡ (rule_of shape).number number.now }
 {
     match shape {
         Shape::Scalars | Shape::Scalar | Shape::Comparables | Shape::Comparable => true,
@@ -32,7 +31,7 @@ pub(crate) fn number_fits(shape: Shape, number: &Dec) -> bool
 }
 
 pub(crate) fn text_fits(shape: Shape, text: &str) -> bool
-    ensures { result ≡ text_fits shape text.now }
+    ensures { result ≡ (rule_of shape).text text.now }
 {
     match shape {
         Shape::Texts | Shape::Text => true,
@@ -46,7 +45,7 @@ pub(crate) fn text_fits(shape: Shape, text: &str) -> bool
 
 /// What the items of an array are judged as. `None` says that the array doesn't fit.
 pub(crate) fn item_shape(shape: Shape, items: &Nodes) -> Option<Shape>
-    ensures { result ≡ item_shape shape items.now }
+    ensures { result ≡ (rule_of shape).array items.now }
 {
     match shape {
         Shape::Queries => Some(Shape::Query),
@@ -61,7 +60,7 @@ pub(crate) fn item_shape(shape: Shape, items: &Nodes) -> Option<Shape>
 
 /// What the value of a member of this name is judged as. `None` says that there is no such member.
 pub(crate) fn member_shape(shape: Shape, name: &str) -> Option<Shape>
-    ensures { result ≡ member_shape shape name.now }
+    ensures { result ≡ (rule_of shape).member name.now }
 {
     match shape {
         Shape::Query => Some(Shape::Argument(form_named(name)?)),
@@ -71,14 +70,14 @@ pub(crate) fn member_shape(shape: Shape, name: &str) -> Option<Shape>
 }
 
 pub(crate) fn fits_object(shape: Shape, members: &Members) -> bool
-    ensures { result ≡ fits_object shape members.now }
+    ensures { result ≡ fits_object (rule_of shape) members.now }
 {
     has_members(shape, members) && are_known(shape, members.as_slice())
 }
 
 /// Whether there is a place for each member.
 fn are_known(shape: Shape, members: &[(Text, Node)]) -> bool
-    ensures { result ≡ list_all (λ m. is_some (member_shape shape m.0)) members.now }
+    ensures { result ≡ list_all (λ m. is_some ((rule_of shape).member m.0)) members.now }
 {
     members
         .iter()
@@ -86,11 +85,11 @@ fn are_known(shape: Shape, members: &[(Text, Node)]) -> bool
 }
 
 fn has_members(shape: Shape, members: &Members) -> bool
-    ensures { result ≡ has_members shape members.now }
+    ensures { result ≡ (rule_of shape).members members.now }
 {
     match shape {
         Shape::Query => members.len() == 1,
-        Shape::Argument(form) => has_required(form, members),
+        Shape::Argument(form) => is_complete(form, members),
         _ => false,
     }
 }

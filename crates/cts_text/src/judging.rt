@@ -1,7 +1,8 @@
 // The first faulty node of a tree, by one walk in the order of the text: a node's own test comes first, then its parts.
 ghost use Rattle.std.specs.Prelude.{◌+◌, ◌<◌, ◌^◌, sum_by};
 ghost use Rattle.cts_meaning.specs.Faults.{node_count};
-ghost use Rattle.cts_text.specs.Judging.{array_parts, item_parts, member_parts, no_parts, object_parts, Judges, JudgesBy, JudgesParts};
+ghost use Rattle.cts_meaning.specs.Shapes.{array_parts, item_parts, member_parts, no_parts, object_parts, rule_of};
+ghost use Rattle.cts_text.specs.Judging.{Judges, JudgesBy, JudgesParts};
 
 use crate::fitting::{fits_object, flat_fits, item_shape, member_shape, number_fits, text_fits};
 use cts_meaning::Shape;
@@ -34,7 +35,7 @@ fn judge_scalar(fits: bool, number: u64) -> Result<u64, u64>
 #[cycle(judging)]
 fn judge_array(shape: Shape, items: &Nodes, number: u64) -> Result<u64, u64>
     requires { number + 1 + sum_by node_count items.now < 2 ^ 64 }
-    ensures { JudgesBy (array_parts shape items.now) number result }
+    ensures { JudgesBy (array_parts (rule_of shape) items.now) number result }
 {
     match item_shape(shape, items) {
         Some(item) => judge_items(item, items, number + 1),
@@ -57,7 +58,7 @@ fn judge_items(shape: Shape, items: &Nodes, number: u64) -> Result<u64, u64>
 #[cycle(judging)]
 fn judge_object(shape: Shape, members: &Members, number: u64) -> Result<u64, u64>
     requires { number + 1 + sum_by (λ m. node_count m.1) members.now < 2 ^ 64 }
-    ensures { JudgesBy (object_parts shape members.now) number result }
+    ensures { JudgesBy (object_parts (rule_of shape) members.now) number result }
 {
     if fits_object(shape, members) {
         judge_members(shape, members, number + 1)
@@ -70,7 +71,7 @@ fn judge_object(shape: Shape, members: &Members, number: u64) -> Result<u64, u64
 #[cycle(judging)]
 fn judge_members(shape: Shape, members: &Members, number: u64) -> Result<u64, u64>
     requires { number + sum_by (λ m. node_count m.1) members.now < 2 ^ 64 }
-    ensures { JudgesParts (member_parts shape members.now) number result }
+    ensures { JudgesParts (member_parts (rule_of shape).member members.now) number result }
 {
     let mut next = number;
     for member in members.as_slice() {

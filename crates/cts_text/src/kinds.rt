@@ -1,7 +1,7 @@
 // What a node holds, if it is of one kind.
 ghost use Rattle.std.specs.Prelude.{◌≡◌};
 ghost use Rattle.std.specs.Option.{option_copied};
-ghost use Rattle.cts_text.specs.Kinds.{items_in, number_in, text_in};
+ghost use Rattle.cts_meaning.specs.Kinds.{items_in, number_in, text_in};
 
 use doc_model::{Dec, Node, Nodes, Text};
 

@@ -4,13 +4,10 @@
 mod bad;
 mod compare;
 mod distance;
-mod fields;
 mod fitting;
+mod forms;
 mod judging;
 mod kinds;
-mod leaf_nodes;
-mod leaf_queries;
-mod names;
 mod node_of;
 mod objects;
 mod options;

@@ -4,7 +4,7 @@ ghost use Rattle.cts_meaning.specs.Canonical.{case_options, option_if, options_m
 ghost use Rattle.cts_meaning.specs.Shapes.{scalar_node};
 ghost use Rattle.doc_model.specs.declared.node.Node.TheVariants as node;
 
-use crate::names::form_name;
+use crate::forms::form_name;
 use cts_meaning::QueryForm;
 use doc_model::{Case, Members, Node, Nodes, Scalar, Scalars, Text, Texts};
 use std::alloc::{AllocError, Global};

@@ -1,8 +1,7 @@
 // The options of a query.
 ghost use Rattle.std.specs.Prelude.{◌≡◌};
 ghost use Rattle.doc_model.specs.Tree.{is_among};
-ghost use Rattle.cts_meaning.specs.Shapes.{both_cases, both_orders, is_language, is_option};
-ghost use Rattle.cts_text.specs.Tables.{has_rivals, has_text, is_text};
+ghost use Rattle.cts_meaning.specs.Shapes.{both_cases, both_orders, has_rivals, has_text, is_language, is_option, is_text};
 
 use crate::kinds::text_of;
 use cts_meaning::OptionKind;

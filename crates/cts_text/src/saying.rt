@@ -5,9 +5,8 @@ ghost use Rattle.cts_meaning.specs.declared.form.QueryForm.TheVariants as form;
 ghost use Rattle.cts_text.specs.Saids.{AreSaid, AreSaidAt, IsSaid, IsSaidAs, IsSaidAt, IsSaidBy};
 ghost use Rattle.doc_model.specs.declared.node.Node.TheVariants as node;
 
-use crate::leaf_queries::{directory, prop_value, prop_word, range, word};
-use crate::names::form_named;
-use crate::values::{distance_in, has_option, texts_in};
+use crate::forms::{directory, form_named, prop_value, prop_word, range, uris, word};
+use crate::values::{distance_in, has_option};
 use cts_meaning::QueryForm;
 use doc_model::{Members, Node, Nodes, Queries, Query};
 use sqlite_items::Boxed;
@@ -59,14 +58,14 @@ fn query_as(alloc: Global, form: QueryForm, members: &Members) -> Result<Query, 
         QueryForm::Or => Ok(Query::Or(queries_in(alloc, members)?)),
         QueryForm::Not => not(alloc, members),
         QueryForm::AndNot => and_not(alloc, members),
-        QueryForm::Word => word(alloc, members),
-        QueryForm::PropWord => prop_word(alloc, members),
-        QueryForm::PropValue => prop_value(alloc, members),
-        QueryForm::Range => range(alloc, members),
+        QueryForm::Word => word::query(alloc, members),
+        QueryForm::PropWord => prop_word::query(alloc, members),
+        QueryForm::PropValue => prop_value::query(alloc, members),
+        QueryForm::Range => range::query(alloc, members),
         QueryForm::Near => near(alloc, members),
-        QueryForm::Collection => Ok(Query::Collection(texts_in(alloc, members, "uris")?)),
-        QueryForm::DocUri => Ok(Query::DocUri(texts_in(alloc, members, "uris")?)),
-        QueryForm::Directory => directory(alloc, members),
+        QueryForm::Collection => uris::collection(alloc, members),
+        QueryForm::DocUri => uris::document(alloc, members),
+        QueryForm::Directory => directory::query(alloc, members),
     }
 }
 

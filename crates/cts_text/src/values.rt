@@ -1,18 +1,17 @@
 // What the members of an argument object hold, of a tree without faults.
-ghost use Rattle.std.specs.Prelude.{◌≡◌, ◌++◌, codes, IfOk, OnOk};
+ghost use Rattle.std.specs.Prelude.{◌≡◌, ◌++◌, codes, map, IfOk, OnOk};
 ghost use Rattle.std.specs.List.{flat_map};
 ghost use Rattle.std.specs.Option.{option_copied};
+ghost use Rattle.doc_model.specs.Tree.{is_among};
 ghost use Rattle.cts_meaning.specs.Saying.{value_of};
 ghost use Rattle.cts_text.specs.Values.{case_in, compare_in, distance_in, has_option, is_infinite, own_scalar, own_text, scalars_in, scalars_of, texts_in, texts_of};
 
 use crate::compare::compare_named;
-use crate::distance::whole_distance;
+use crate::distance::{DEFAULT_DISTANCE, whole_distance};
 use crate::kinds::{items_of, number_of, text_of};
 use crate::options::{has_text, is_text};
 use doc_model::{Case, Compare, Members, Node, Nodes, Scalar, Scalars, Texts};
 use std::alloc::{AllocError, Global};
-
-const DEFAULT_DISTANCE: u32 = 10;
 
 /// The value of the member of this name.
 fn value_of<'a>(members: &'a Members, name: &str) -> Option<&'a Node>
@@ -24,6 +23,18 @@ fn value_of<'a>(members: &'a Members, name: &str) -> Option<&'a Node>
         }
     }
     None
+}
+
+/// Whether there is a member of this name.
+pub(crate) fn has_member(members: &Members, name: &str) -> bool
+    ensures { result ≡ is_among (map (λ m. m.0) members.now) name.now }
+{
+    for member in members.as_slice() {
+        if name == member.0.as_str() {
+            return true;
+        }
+    }
+    false
 }
 
 /// The texts of a member: those of an array, or one alone.

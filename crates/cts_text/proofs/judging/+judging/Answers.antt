@@ -6,10 +6,10 @@ use Rattle.doc_model.specs.declared.node.Node.{Node}
 use Rattle.doc_model.specs.declared.node.Node.TheShapes.{weighed-Node-Members-0-at-2}
 use Rattle.doc_model.specs.declared.node.Node.TheViews.{out-Node}
 use Rattle.cts_meaning.specs.Faults.{node_count}
+use Rattle.cts_meaning.specs.Shapes.{item_parts, member_parts, no_parts, rule_of}
 use Rattle.cts_meaning.proofs.Nodes.{out_bool, out_items, out_members, out_null, out_number, out_text}
 use Rattle.json_text.specs.Grammar.{Member}
-use Rattle.cts_text.specs.Judging.{item_parts, JudgesBy, member_parts, no_parts}
-use Rattle.cts_text.specs.Tables.{member_shape, text_fits}
+use Rattle.cts_text.specs.Judging.{JudgesBy}
 use Rattle.cts_text.proofs.Steps.{drop_end, goes_end, items_more, items_stop, members_more, members_stop, sum_step}
 use Rattle.cts_text.proofs.Steps.{weight_within}
 use Rattle.cts_text.proofs.Walk.{judged}
@@ -40,7 +40,7 @@ judge-returns-in-Text t c =
     judged c.args.shape c.args.node.now (Node-F.Text c.in-Text.text) c.args.number c.judge_scalar-in-Text.result
     (ap out-Node c.in-Text.is ∙ out_text c.in-Text.text)
     (subst (λ b. JudgesBy (no_parts b) c.args.number c.judge_scalar-in-Text.result)
-    (c.text_fits.ensures ∙ ap (text_fits c.args.shape) c.as_str.ensures) c.judge_scalar-in-Text.ensures)
+    (c.text_fits.ensures ∙ ap (rule_of c.args.shape).text c.as_str.ensures) c.judge_scalar-in-Text.ensures)
 
 pub judge-returns-in-Items : goal.judge-returns-in-Items
 judge-returns-in-Items t c =
@@ -98,19 +98,19 @@ judge_members-judge-requires t c =
 pub judge_members-returns-in_err-next : goal.judge_members-returns-in_err-next
 judge_members-returns-in_err-next t c =
     let p = err_from_is_err_and c.from_residual.result c.from_residual.ensures.1 in
-    rw (p.1, p.2) (members_stop c.args.shape c.args.members.now c.as_slice-member-items.result.now
+    rw (p.1, p.2) (members_stop (rule_of c.args.shape).member c.args.members.now c.as_slice-member-items.result.now
     c.loop-member.member-index c.member-item.result c.loop-member.next c.args.number c.as_slice-member-items.ensures
     c.loop-member-test.true c.member-item.is c.loop-member.invariant.goes c.in-Some.part c.in_err-next.field-0.0
-    (sym (ap (member_shape c.args.shape) c.as_str.ensures) ∙ sym c.member_shape.ensures ∙ c.in-Some.is)
+    (sym (ap (rule_of c.args.shape).member c.as_str.ensures) ∙ sym c.member_shape.ensures ∙ c.in-Some.is)
     c.in_err-next.ensures)
 
 pub judge_members-loop-member-preserved : goal.judge_members-loop-member-preserved
 judge_members-loop-member-preserved t c = record {
   goes =
-      members_more c.args.shape c.args.members.now c.as_slice-member-items.result.now c.loop-member.member-index
+      members_more (rule_of c.args.shape).member c.args.members.now c.as_slice-member-items.result.now c.loop-member.member-index
       c.member-item.result c.loop-member.next c.args.number c.as_slice-member-items.ensures c.loop-member-test.true
       c.member-item.is c.loop-member.invariant.goes c.in-Some.part c.in_ok-next.next
-      (sym (ap (member_shape c.args.shape) c.as_str.ensures) ∙ sym c.member_shape.ensures ∙ c.in-Some.is)
+      (sym (ap (rule_of c.args.shape).member c.as_str.ensures) ∙ sym c.member_shape.ensures ∙ c.in-Some.is)
       c.in_ok-next.ensures;
   room = omega (
     arith,
@@ -124,7 +124,7 @@ judge_members-loop-member-preserved t c = record {
 
 pub judge_members-returns : goal.judge_members-returns
 judge_members-returns t c =
-    goes_end (member_parts c.args.shape (drop c.loop-member.member-index c.args.members.now))
-    (member_parts c.args.shape c.args.members.now) c.loop-member.next c.args.number
-    (ap (member_parts c.args.shape) (drop_end c.args.members.now c.as_slice-member-items.result.now
+    goes_end (member_parts (rule_of c.args.shape).member (drop c.loop-member.member-index c.args.members.now))
+    (member_parts (rule_of c.args.shape).member c.args.members.now) c.loop-member.next c.args.number
+    (ap (member_parts (rule_of c.args.shape).member) (drop_end c.args.members.now c.as_slice-member-items.result.now
     c.loop-member.member-index c.as_slice-member-items.ensures c.loop-member-test.false)) c.loop-member.invariant.goes

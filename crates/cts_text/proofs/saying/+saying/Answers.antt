@@ -2,10 +2,10 @@ use Rattle.std.proofs.Common.{◌+◌, List, Some, ap, arith, drop, length, ltb-
 use Rattle.doc_model.specs.declared.node.Node.TheVariants as node
 use Rattle.doc_model.specs.declared.query.Query.TheVariants as query
 use Rattle.json_text.specs.Grammar.{Member}
+use Rattle.cts_meaning.specs.Shapes.{form_named}
 use Rattle.cts_meaning.specs.declared.form.QueryForm.TheVariants as form
 use Rattle.cts_text.specs.Saids.{AreSaid, AreSaidAt, IsSaid, IsSaidAs, IsSaidBy}
-use Rattle.cts_text.specs.Tables.{form_named}
-use Rattle.cts_text.proofs.Said.{and_not_said, and_said, collection_with, doc_uri_with, near_with, not_said, or_said}
+use Rattle.cts_text.proofs.Said.{and_not_said, and_said, near_with, not_said, or_said}
 use Rattle.cts_text.proofs.Steps.{said_end, said_more, SaysWith}
 use Rattle.cts_text.proofs.Told.{array_said, object_said, ok_more, one_member, other_length_said, other_said, unnamed_said}
 use Rattle.cts_text.proofs.saying.+saying.Goals as goal
@@ -49,18 +49,6 @@ query_as-returns-in_ok-queries_in-in-Or t c =
     let qs = c.in_ok-queries_in-in-Or.field-0 in
     subst (λ f. IsSaidAs f c.args.members.now (query.Or qs)) (sym c.in-Or.is)
     (or_said c.args.members.now qs c.in_ok-queries_in-in-Or.ensures)
-
-pub query_as-returns-in_ok-texts_in-in-Collection : goal.query_as-returns-in_ok-texts_in-in-Collection
-query_as-returns-in_ok-texts_in-in-Collection t c =
-    let uris = c.in_ok-texts_in-in-Collection.field-0 in
-    subst (λ f. IsSaidAs f c.args.members.now (query.Collection uris)) (sym c.in-Collection.is)
-    (collection_with c.args.members.now uris c.in_ok-texts_in-in-Collection.ensures)
-
-pub query_as-returns-in_ok-texts_in-in-DocUri : goal.query_as-returns-in_ok-texts_in-in-DocUri
-query_as-returns-in_ok-texts_in-in-DocUri t c =
-    let uris = c.in_ok-texts_in-in-DocUri.field-0 in
-    subst (λ f. IsSaidAs f c.args.members.now (query.DocUri uris)) (sym c.in-DocUri.is)
-    (doc_uri_with c.args.members.now uris c.in_ok-texts_in-in-DocUri.ensures)
 
 pub not-returns : goal.not-returns
 not-returns t c = subst (λ q. IsSaidAs form.Not c.args.members.now (query.Not q)) (sym c.in_ok-new.ensures)

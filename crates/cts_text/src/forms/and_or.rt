@@ -1,0 +1,36 @@
+// andQuery and orQuery, whose text differs in the name alone.
+ghost use Rattle.std.specs.Prelude.{◌≡◌, ◌∷◌, [], codes, IfOk};
+ghost use Rattle.std.specs.List.{list_all};
+ghost use Rattle.cts_meaning.specs.Canonical.{query_object};
+ghost use Rattle.cts_meaning.specs.Shapes.{field_shape, fields_of, is_given};
+ghost use Rattle.cts_meaning.specs.declared.form.QueryForm.TheVariants as form;
+ghost use Rattle.doc_model.specs.declared.node.Node.TheVariants as node;
+
+use crate::objects::{member, query_object};
+use crate::values::has_member;
+use cts_meaning::{QueryForm, Shape};
+use doc_model::{Members, Node, Nodes};
+use std::alloc::{AllocError, Global};
+
+pub(super) fn field_shape(name: &str) -> Option<Shape>
+    ensures { result ≡ field_shape (fields_of form.And) name.now }
+{
+    match name {
+        "queries" => Some(Shape::Queries),
+        _ => None,
+    }
+}
+
+pub(super) fn is_complete(members: &Members) -> bool
+    ensures { result ≡ list_all (is_given members.now) (fields_of form.And) }
+{
+    has_member(members, "queries")
+}
+
+/// A query of this form, with the trees of the queries in it.
+pub(crate) fn node(alloc: Global, form: QueryForm, queries: Nodes) -> Result<Node, AllocError>
+    ensures { IfOk result (λ n. n ≡ query_object form ((codes "queries", node.Items queries) ∷ [])) }
+{
+    let members = member(alloc, "queries", Node::Items(queries))?;
+    query_object(alloc, form, members)
+}

@@ -1,0 +1,46 @@
+// wordQuery.
+ghost use Rattle.std.specs.Prelude.{◌≡◌, ◌∷◌, codes, IfOk};
+ghost use Rattle.std.specs.List.{list_all};
+ghost use Rattle.cts_meaning.specs.Canonical.{case_options, options_member, query_object, texts_node};
+ghost use Rattle.cts_meaning.specs.Shapes.{field_shape, fields_of, is_given};
+ghost use Rattle.cts_meaning.specs.declared.form.QueryForm.TheVariants as form;
+ghost use Rattle.cts_text.specs.Saids.{IsSaidAs};
+
+use crate::objects::{case_options, member, query_object, texts_node, with_options};
+use crate::values::{case_in, has_member, texts_in};
+use cts_meaning::{OptionKind, QueryForm, Shape};
+use doc_model::{Case, Members, Node, Query, Texts};
+use std::alloc::{AllocError, Global};
+
+pub(super) fn field_shape(name: &str) -> Option<Shape>
+    ensures { result ≡ field_shape (fields_of form.Word) name.now }
+{
+    match name {
+        "text" => Some(Shape::Texts),
+        "options" => Some(Shape::Options(OptionKind::Word)),
+        _ => None,
+    }
+}
+
+pub(super) fn is_complete(members: &Members) -> bool
+    ensures { result ≡ list_all (is_given members.now) (fields_of form.Word) }
+{
+    has_member(members, "text")
+}
+
+pub(crate) fn query(alloc: Global, members: &Members) -> Result<Query, AllocError>
+    ensures { IfOk result (λ q. IsSaidAs form.Word members.now q) }
+{
+    let texts = texts_in(alloc, members, "text")?;
+    let case = case_in(members);
+    Ok(Query::Word { texts, case })
+}
+
+pub(crate) fn node(alloc: Global, texts: &Texts, case: Case) -> Result<Node, AllocError>
+    ensures { IfOk result (λ n. n ≡ query_object form.Word
+        ((codes "text", texts_node texts.now) ∷ options_member (case_options case))) }
+{
+    let members = member(alloc, "text", texts_node(alloc, texts)?)?;
+    let members = with_options(alloc, members, &case_options(alloc, case)?)?;
+    query_object(alloc, QueryForm::Word, members)
+}
