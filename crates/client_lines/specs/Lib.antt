@@ -1,8 +1,8 @@
 pub mod Finds
+pub mod LineForms
 pub mod Lines
-pub mod Members
 pub mod Parts
-pub mod Puts
+pub mod Readings
 pub mod ReplyGroups
-pub mod Searches
+pub mod Rows
 pub mod Sending

@@ -1,17 +1,21 @@
 //! Lines to commands, and replies to bytes.
 #![tactic(auto)]
 
+mod commits;
+mod faults;
+mod form;
 mod found;
-mod members;
+mod lookups;
 mod outbox;
 mod part;
-mod put;
-mod quoted;
 mod reading;
 mod refusal;
 mod refusing;
+mod row;
+mod rows;
 mod scan;
-mod search;
+mod span;
+mod way;
 mod words;
 mod writing;
 

@@ -1,9 +1,12 @@
 use std::alloc::{AllocError, AllocFailed};
+use transcript::BadKind;
 
 /// Why a line asks nothing.
 #[derive(Clone, Copy, Debug, PartialEq, Eq)]
 pub enum LineRefusal {
-    /// It has no form that is read so far, or puts what breaks a rule of documents or of commits.
+    /// The line has a fault: a byte of it, or for `Query` and `Ops` the number of a node of its JSON.
+    Bad { kind: BadKind, place: u64 },
+    /// The line has a form that isn't answered yet.
     Later,
     Memory,
 }

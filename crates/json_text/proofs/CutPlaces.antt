@@ -6,7 +6,7 @@ use Rattle.json_text.specs.declared.fault.Fault.{Fault}
 use Rattle.json_text.specs.declared.fault.Fault.TheVariants as fault
 use Rattle.json_text.specs.Grammar.{Padded}
 use Rattle.json_text.specs.Faults.{IsSpelled, IsGrammatical, BeginsWithin, BracketHere, IsPlace, FaultAt}
-use Rattle.text_prefixes.specs.Prefixes.{Begins, IsLongestPrefix}
+use Rattle.text_prefixes.specs.Prefixes.{IsLongestPrefix}
 use Rattle.text_prefixes.proofs.PrefixLemmas.{longest_by_one_more}
 use Rattle.json_text.specs.Answers.{placed}
 use Rattle.json_text.specs.Reading.{text_read}

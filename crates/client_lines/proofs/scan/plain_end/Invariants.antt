@@ -1,6 +1,0 @@
-use Rattle.std.proofs.Common.{ℕ, ◌<◌, get_or}
-use Rattle.client_lines.specs.Members.{IsPlainByte}
-use Rattle.client_lines.proofs.scan.plain_end.Given as goal
-
-abbrev pub invariant-loop-i : goal.invariant-loop-i
-invariant-loop-i l = (k : ℕ) → k < l.i → IsPlainByte (get_or l.bytes k 0)
