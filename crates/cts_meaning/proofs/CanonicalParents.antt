@@ -59,7 +59,7 @@ queries_entry : (fields : List Field) (depth : ℕ) (nodes : List Node) (queries
     Entry fields (codes "queries", node.Items nodes)
 queries_entry fields depth nodes queries found sound =
     entry fields (codes "queries") (node.Items nodes) shape.Queries found
-    (faultless_of shape.Queries (node.Items nodes) (item_parts shape.Query nodes) 
+    (faultless_of shape.Queries (node.Items nodes) (item_parts shape.Query nodes)
     (ap (parts_by (rule_of shape.Queries)) (out_items nodes)) sound.clean)
     (names_items nodes ∙ sound.names)
 

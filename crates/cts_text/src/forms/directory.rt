@@ -38,11 +38,7 @@ pub(crate) fn query(alloc: Global, members: &Members) -> Result<Query, AllocErro
     Ok(Query::Directory { uris, infinite })
 }
 
-pub(crate) fn node(
-    alloc: Global,
-    uris: &Texts,
-    infinite: bool,
-) -> Result<Node, AllocError>
+pub(crate) fn node(alloc: Global, uris: &Texts, infinite: bool) -> Result<Node, AllocError>
     ensures { IfOk result (λ n. n ≡ query_object form.Directory
         ((codes "uris", texts_node uris.now) ∷ only_if infinite (codes "depth") (node.Text (depth_text infinite)))) }
 {
