@@ -1,36 +1,66 @@
 -- How one line is answered.
-use Rattle.std.proofs.Common.{inl, inr, ◌∷◌, [], ℕ, List, Option, Some, Err, refl, sym, subst}
+use Rattle.std.proofs.Common.{◌≢◌, inl, inr, ◌∷◌, [], ℕ, List, Option, Some, Err, refl, sym, subst}
 use Rattle.client_run.specs.Closing.{Closes}
 use Rattle.client_run.specs.Serving.{AnswersOne}
 use Rattle.client_run.specs.Sessions.{Relation, AnswersLine}
 use Rattle.transcript.specs.Commands.{Asks}
+use Rattle.transcript.specs.Forms.{Form, HasForm}
+use Rattle.transcript.specs.Forms as form
+use Rattle.transcript.specs.Refusals.{IsRefused}
 use Rattle.transcript.specs.declared.command.Command.{Command}
 use Rattle.transcript.specs.declared.command.Command.TheVariants as command
 use Rattle.transcript.specs.declared.command.Command.TheVariants.{Quit}
 use Rattle.transcript.specs.declared.command.When.TheVariants.{Front, At, Pinned}
 use Rattle.transcript.specs.Texts.{text_of}
+use Rattle.transcript.specs.declared.reply.BadKind.{BadKind}
 use Rattle.transcript.specs.declared.reply.Reply.TheVariants as reply
 use Rattle.transcript.specs.declared.session_end.SessionEnd.{SessionEnd}
 use Rattle.transcript.specs.declared.session_end.SessionEnd.TheVariants as end
 
--- an empty line asks nothing
+-- an empty line has no form
+no_form : (f : Form) → HasForm [] f → ⊥
+no_form (form.put uri json) has = let is = has.fits.1 in absurd (cc)
+no_form (form.remove uri) has = let is = has.fits.1 in absurd (cc)
+no_form (form.commit json) has = let is = has.fits.1 in absurd (cc)
+no_form (form.get when uri) has = let is = has.fits.1 in absurd (cc)
+no_form (form.search when json) has = let is = has.fits.1 in absurd (cc)
+no_form (form.estimate when json) has = let is = has.fits.1 in absurd (cc)
+no_form form.stamp has = let is = has.fits.1 in absurd (cc)
+no_form (form.forget to) has = let is = has.fits.1 in absurd (cc)
+no_form form.pin has = let is = has.fits.1 in absurd (cc)
+no_form form.unpin has = let is = has.fits.1 in absurd (cc)
+no_form form.save has = let is = has.fits.1 in absurd (cc)
+no_form form.merge has = let is = has.fits.1 in absurd (cc)
+no_form form.revive has = let is = has.fits.1 in absurd (cc)
+no_form form.quit has = let is = has.fits.1 in absurd (cc)
+
+-- it asks nothing
 asks_nothing : (asked : Command) → Asks [] asked → ⊥
-asks_nothing (command.Commit ops) (uri, members, (utf8, is_uri, plain, is), asked, are) = absurd (cc)
-asks_nothing (command.Search q Front) (word, (utf8, words, is), asked) = absurd (cc)
+asks_nothing (command.Commit ops) (inl (uri, json, root, has, is_uri, is_json, is, are)) = no_form (form.put uri json) has
+asks_nothing (command.Commit ops) (inr (uri, has, is_uri, is, are)) = no_form (form.remove uri) has
+asks_nothing (command.Get uri Front) (has, is_uri) = no_form (form.get Front uri) has
+asks_nothing (command.Get uri (At t)) never = absurd never
+asks_nothing (command.Get uri Pinned) never = absurd never
+asks_nothing (command.Search q Front) asks = no_form (form.search Front asks.0) asks.1
 asks_nothing (command.Search q (At t)) never = absurd never
 asks_nothing (command.Search q Pinned) never = absurd never
-asks_nothing command.Quit is = absurd (cc)
-asks_nothing (command.Get uri when) never = absurd never
 asks_nothing (command.Estimate q when) never = absurd never
-asks_nothing command.Stamp never = absurd never
+asks_nothing command.Stamp is = absurd (cc)
 asks_nothing (command.Forget to) never = absurd never
 asks_nothing command.Pin never = absurd never
 asks_nothing command.Unpin never = absurd never
 asks_nothing command.Save never = absurd never
 asks_nothing command.Merge never = absurd never
 asks_nothing command.Revive never = absurd never
+asks_nothing command.Quit is = absurd (cc)
 
 module _ {S : Type 0} (answers : Relation S) (old : S) where
+  -- a refused line is answered with its fault
+  pub says_bad : (line : List ℕ) (kind : BadKind) (place : ℕ) → line ≢ [] → IsRefused line kind place
+      → AnswersLine answers old line (Some (reply.Bad kind place)) old
+  says_bad [] kind place some refused = absurd (some refl)
+  says_bad (b ∷ line) kind place some refused = inr (inr (inl (inl refused, refl)))
+
   says_bye : (line : List ℕ) → Asks line Quit → AnswersLine answers old line (Some reply.Bye) old
   says_bye [] is = absurd (asks_nothing Quit is)
   says_bye (b ∷ line) is = inr (inl (is, refl, refl))

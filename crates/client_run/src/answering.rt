@@ -42,6 +42,7 @@ fn answer<R, S: Service>(rt: &R, alloc: Global, service: &mut S, line: &[u8]) ->
     match read_line(alloc, line) {
         Ok(None) => None,
         Ok(Some(command)) => Some(service.answer(rt, command)),
+        Err(LineRefusal::Bad { kind, place }) => Some(Reply::Bad { kind, place }),
         Err(LineRefusal::Later) => Some(Reply::Later),
         Err(LineRefusal::Memory) => Some(Reply::Memory),
     }

@@ -9,3 +9,4 @@ pub mod Refusing
 pub mod Opened
 pub mod Created
 pub mod Lengths
+pub mod Reading

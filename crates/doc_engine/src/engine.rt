@@ -71,6 +71,7 @@ impl<D: Disk, Y: Yard> Engine<D, Y> {
         Snapshot {
             front: self.front,
             merge: self.merge,
+            settings: &self.settings,
             documents: &self.live,
         }
     }

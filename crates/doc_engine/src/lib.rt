@@ -14,5 +14,5 @@ mod snapshot;
 
 pub use engine::Engine;
 pub use laws::{standing_is_shown, untouched_is_shown};
-pub use refusal::{CommitRefusal, OpenRefused, OpenWhy, Pending};
+pub use refusal::{CommitRefusal, OpenRefused, OpenWhy, Pending, SearchRefusal};
 pub use snapshot::Snapshot;

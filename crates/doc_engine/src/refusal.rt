@@ -2,7 +2,7 @@
 ghost use Rattle.std.specs.Prelude.{◌≡◌};
 
 use disk_model::FileName;
-use doc_model::Text;
+use doc_model::{QueryBad, Text};
 use journal::{JournalRefusal, MakeRefusal};
 use std::alloc::AllocError;
 use thiserror::Error;
@@ -37,6 +37,39 @@ impl From<AllocError> for CommitRefusal {
 
     fn from(_: AllocError) -> CommitRefusal {
         CommitRefusal::Memory
+    }
+}
+
+/// Why a search was refused.
+#[derive(Debug, Drop, Error)]
+pub enum SearchRefusal {
+    /// The first rule that the query breaks.
+    #[error("the query breaks a rule")]
+    Query(QueryBad),
+    #[error("out of memory")]
+    Memory,
+}
+
+impl From<QueryBad> for SearchRefusal {
+    ghost use Rattle.doc_engine.specs.Reads.{refused_as};
+
+    ghost from_gives = { λ why refusal. refusal ≡ refused_as why };
+
+    fn from(why: QueryBad) -> SearchRefusal {
+        match why {
+            QueryBad::Memory => SearchRefusal::Memory,
+            why => SearchRefusal::Query(why),
+        }
+    }
+}
+
+impl From<AllocError> for SearchRefusal {
+    ghost use Rattle.doc_engine.specs.declared.refusal.SearchRefusal.TheVariants.{Memory};
+
+    ghost from_gives = { λ _ refusal. refusal ≡ Memory };
+
+    fn from(_: AllocError) -> SearchRefusal {
+        SearchRefusal::Memory
     }
 }
 

@@ -5,6 +5,7 @@ pub mod Taking
 pub mod Saying
 pub mod Committing
 pub mod Wording
+pub mod Writing
 pub mod Using
 pub mod Staying
 pub mod Ending

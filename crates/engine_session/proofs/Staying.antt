@@ -44,7 +44,9 @@ module _ {D Y F B : Type 0} {of_disk : Disk.Ghosts D} {of_yard : Yard.Ghosts Y F
   step_stays old new (command.Search q when.Front) said step = stays_same old new step.1
   step_stays old new (command.Search q (when.At at)) said step = stays_same old new step.1
   step_stays old new (command.Search q when.Pinned) said step = stays_same old new step.1
-  step_stays old new (command.Get uri when) said step = stays_same old new step.1
+  step_stays old new (command.Get uri when.Front) said step = stays_same old new step.1
+  step_stays old new (command.Get uri (when.At at)) said step = stays_same old new step.1
+  step_stays old new (command.Get uri when.Pinned) said step = stays_same old new step.1
   step_stays old new (command.Estimate q when) said step = stays_same old new step.1
   step_stays old new command.Stamp said step = stays_same old new step.1
   step_stays old new (command.Forget to) said step = stays_same old new step.1
@@ -69,7 +71,7 @@ module _ {D Y F B : Type 0} {of_disk : Disk.Ghosts D} {of_yard : Yard.Ghosts Y F
     line_stays old new (b ∷ line) (Some answer) (inl (asked, asks, differs, step)) =
         step_stays (engine_of old) (engine_of new) asked answer (steps old asked answer new step)
     line_stays old new (b ∷ line) (Some answer) (inr (inl (quits, bye, same))) = unasked old new same
-    line_stays old new (b ∷ line) (Some answer) (inr (inr (inl (nothing, later, same)))) = unasked old new same
+    line_stays old new (b ∷ line) (Some answer) (inr (inr (inl (refused, same)))) = unasked old new same
     line_stays old new (b ∷ line) (Some answer) (inr (inr (inr (lacks, same)))) = unasked old new same
 
     pub lines_stay : (old new : S) (exchanges : List Exchange) → s.AnswersLines answers old exchanges new

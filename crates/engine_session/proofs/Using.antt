@@ -20,13 +20,13 @@ use Rattle.engine_session.proofs.Crashing.{LeavesNow}
 use Rattle.engine_session.proofs.Saying.{answer_of, said_is}
 use Rattle.engine_session.proofs.Taking.{Goes, goes_same}
 use Rattle.engine_session.proofs.Turning.{pending_stays, turn_of}
-use Rattle.engine_session.proofs.Wording.{found_word}
+use Rattle.engine_session.proofs.Wording.{found_at, got_at}
 use Rattle.engine_session.specs.Step.{Step}
 use Rattle.transcript.proofs.OwnTurnLemmas.{visits-append}
 use Rattle.transcript.specs.Answers as a
-use Rattle.transcript.specs.Commands.{Asks, word_query}
+use Rattle.transcript.specs.Commands.{Asks}
 use Rattle.transcript.specs.Lines.{Line, content}
-use Rattle.transcript.specs.OwnTurns.{TurnAt, turns_behind}
+use Rattle.transcript.specs.OwnTurns.{Looks, TurnAt, turns_behind}
 use Rattle.transcript.specs.Transcript as t
 use Rattle.transcript.specs.Transcript.{Served, SessionState}
 use Rattle.transcript.specs.Turns.{Turn, history_of, look, looks}
@@ -39,6 +39,11 @@ use Rattle.transcript.specs.declared.reply.Reply.TheVariants as reply
 -- no pin, a port that doesn't fail, and so many bytes that may have been read
 abbrev pub state : ℕ → SessionState
 state reads = record { pin = None; faults_left = 0; reads = reads }
+
+-- the operations of a line are ones that a commit takes
+asked_ops : (line : List ℕ) (ops : List Op) → Asks line (command.Commit ops) → AreOps ops
+asked_ops line ops (inl (uri, json, root, has, is_uri, is_json, is, are)) = are
+asked_ops line ops (inr (uri, has, is_uri, is, are)) = are
 
 module _ {D Y F B : Type 0} {of_disk : Disk.Ghosts D} {of_yard : Yard.Ghosts Y F B} {of_file : SealedFile.Ghosts F}
     {of_build : Build.Ghosts B F}
@@ -99,31 +104,60 @@ module _ {D Y F B : Type 0} {of_disk : Disk.Ghosts D} {of_yard : Yard.Ghosts Y F
         (pending_stays list look (looks (look_reply (history_of base list))) (held_of old).down goes.takes.down
         (λ n. refl))
 
-    -- a search for a word
-    search_line : (word : List ℕ) (answer : Reply) → Step old (command.Search (word_query word) when.Front) answer new
-        → Lines n line (command.Search (word_query word) when.Front)
-        → Asks line (command.Search (word_query word) when.Front)
-        → t.AnswersLine base (state n) line [] (Some reply.Memory) (state n)
+    -- a command that only looks
+    looked : (m : ℕ) (answer : Reply) → new ≡ old
+        → t.AnswersLine base (state n) line (turns_behind 0 list (look_turn ∷ [])) (Some answer) (state m)
         → Served1 new list n line (Some answer)
+    looked m answer same answers = record {
+      more = look_turn ∷ [];
+      reads = m;
+      goes = subst (λ (e : Engine D Y F B of_disk of_yard of_file of_build).
+          Goes at_now first base longest e (list ++ look_turn ∷ [])) (sym same) look_goes;
+      answers = answers;
+    }
+
+    -- a look at the history of the turns before
+    looks_here : Looks base (turns_behind 0 list (look_turn ∷ [])) (history_of base list)
     unfolding look_turn
-    search_line word answer (inl says, same) lines asks lacks =
-        let h = history_of base list in
-        let asked = command.Search (word_query word) when.Front in
-        let is = goes.takes.is_at in
-        record {
-          more = look_turn ∷ [];
-          reads = n + a.reads_of asked h;
-          goes = subst (λ (e : Engine D Y F B of_disk of_yard of_file of_build).
-              Goes at_now first base longest e (list ++ look_turn ∷ [])) (sym same) look_goes;
-          answers = lines (turns_behind 0 list (look_turn ∷ [])) answer (n + a.reads_of asked h) (
-            h,
-            (record { before = list; turn = look_turn }, refl, refl, refl, refl),
-            (says ∙ (rw (is.front, is.documents) (sym (found_word h word goes.ordered))), refl),
-          );
-        }
-    search_line word answer (inr wants, same) lines asks lacks =
+    looks_here = (record { before = list; turn = look_turn }, refl, refl, refl, refl)
+
+    -- want of memory
+    lacking : (answer : Reply) → answer ≡ reply.Memory → new ≡ old
+        → t.AnswersLine base (state n) line [] (Some reply.Memory) (state n) → Served1 new list n line (Some answer)
+    lacking answer wants same lacks =
         none_used new old list n line (Some answer) goes same
         (subst (λ (r : Reply). t.AnswersLine base (state n) line [] (Some r) (state n)) (sym wants) lacks)
+
+    -- a search
+    search_line : (q : Query) (answer : Reply) → Step old (command.Search q when.Front) answer new
+        → Lines n line (command.Search q when.Front)
+        → t.AnswersLine base (state n) line [] (Some reply.Memory) (state n) → Served1 new list n line (Some answer)
+    search_line q answer (inl says, same) lines lacks =
+        let h = history_of base list in
+        let m = n + a.reads_of (command.Search q when.Front) h in
+        looked m answer same (lines (turns_behind 0 list (look_turn ∷ [])) answer m
+        (h, looks_here, (says ∙ found_at (held_of old) h q goes.takes.is_at goes.ordered, refl)))
+    search_line q answer (inr wants, same) lines lacks = lacking answer wants same lacks
+
+    -- a get
+    get_line : (uri : List ℕ) (answer : Reply) → Step old (command.Get uri when.Front) answer new
+        → Lines n line (command.Get uri when.Front)
+        → t.AnswersLine base (state n) line [] (Some reply.Memory) (state n) → Served1 new list n line (Some answer)
+    get_line uri answer (inl says, same) lines lacks =
+        let h = history_of base list in
+        let m = n + a.reads_of (command.Get uri when.Front) h in
+        looked m answer same (lines (turns_behind 0 list (look_turn ∷ [])) answer m
+        (h, looks_here, (says ∙ got_at (held_of old) h uri goes.takes.is_at goes.ordered, refl)))
+    get_line uri answer (inr wants, same) lines lacks = lacking answer wants same lacks
+
+    -- a stamp
+    stamp_line : (answer : Reply) → Step old command.Stamp answer new → Lines n line command.Stamp
+        → Served1 new list n line (Some answer)
+    stamp_line answer (says, same) lines =
+        let h = history_of base list in
+        let is = goes.takes.is_at in
+        looked n answer same (lines (turns_behind 0 list (look_turn ∷ [])) answer n
+        (h, looks_here, says ∙ rw (is.front, is.merge) refl, refl))
 
   -- what a command of a line uses, by its step
   command_line : (old new : Engine D Y F B of_disk of_yard of_file of_build) (list : List Turn) (n : ℕ) (line : List ℕ)
@@ -131,21 +165,24 @@ module _ {D Y F B : Type 0} {of_disk : Disk.Ghosts D} {of_yard : Yard.Ghosts Y F
       → asked ≢ command.Quit → Step old asked answer new → Lines n line asked
       → t.AnswersLine base (state n) line [] (Some reply.Memory) (state n)
       → Served1 new list n line (Some answer)
-  command_line old new list n line (command.Commit ops) answer goes (uri, members, is, one, fit) differs step lines
-      lacks =
-      commit_line old new list n line goes ops answer fit step lines
-  command_line old new list n line (command.Search q when.Front) answer goes (word, is, one) differs step lines lacks =
-      search_line old new list n line goes word answer
-      (subst (λ (w : Query). Step old (command.Search w when.Front) answer new) one step)
-      (subst (λ (w : Query). Lines n line (command.Search w when.Front)) one lines) (word, is, refl) lacks
+  command_line old new list n line (command.Commit ops) answer goes asks differs step lines lacks =
+      commit_line old new list n line goes ops answer (asked_ops line ops asks) step lines
+  command_line old new list n line (command.Get uri when.Front) answer goes asks differs step lines lacks =
+      get_line old new list n line goes uri answer step lines lacks
+  command_line old new list n line (command.Search q when.Front) answer goes asks differs step lines lacks =
+      search_line old new list n line goes q answer step lines lacks
+  command_line old new list n line command.Stamp answer goes asks differs step lines lacks =
+      stamp_line old new list n line goes answer step lines
   command_line old new list n line command.Quit answer goes asks differs step lines lacks = absurd (differs refl)
   command_line old new list n line (command.Search q (when.At at)) answer goes asks differs step lines lacks =
       absurd asks
   command_line old new list n line (command.Search q when.Pinned) answer goes asks differs step lines lacks =
       absurd asks
-  command_line old new list n line (command.Get uri when) answer goes asks differs step lines lacks = absurd asks
+  command_line old new list n line (command.Get uri (when.At at)) answer goes asks differs step lines lacks =
+      absurd asks
+  command_line old new list n line (command.Get uri when.Pinned) answer goes asks differs step lines lacks =
+      absurd asks
   command_line old new list n line (command.Estimate q when) answer goes asks differs step lines lacks = absurd asks
-  command_line old new list n line command.Stamp answer goes asks differs step lines lacks = absurd asks
   command_line old new list n line (command.Forget to) answer goes asks differs step lines lacks = absurd asks
   command_line old new list n line command.Pin answer goes asks differs step lines lacks = absurd asks
   command_line old new list n line command.Unpin answer goes asks differs step lines lacks = absurd asks
@@ -171,9 +208,9 @@ module _ {D Y F B : Type 0} {of_disk : Disk.Ghosts D} {of_yard : Yard.Ghosts Y F
     serves_line old new list n (b ∷ line) (Some answer) goes (inr (inl (quits, bye, same))) =
         none_used (engine_of new) (engine_of old) list n (b ∷ line) (Some answer) goes (ap engine_of same)
         (inl (command.Quit, quits, inl (refl, bye, refl)))
-    serves_line old new list n (b ∷ line) (Some answer) goes (inr (inr (inl (nothing, later, same)))) =
+    serves_line old new list n (b ∷ line) (Some answer) goes (inr (inr (inl (refused, same)))) =
         none_used (engine_of new) (engine_of old) list n (b ∷ line) (Some answer) goes (ap engine_of same)
-        (inr (inl (inr (nothing, later), refl, refl)))
+        (inr (inl (refused, refl, refl)))
     serves_line old new list n (b ∷ line) (Some answer) goes (inr (inr (inr (lacks, same)))) =
         none_used (engine_of new) (engine_of old) list n (b ∷ line) (Some answer) goes (ap engine_of same)
         (inr (inr (lacks, inl (refl, refl))))

@@ -1,34 +1,37 @@
--- What is found for a word at the front of a history.
-use Rattle.std.proofs.Common.{◌≡◌, ◌≤◌, ℕ, List, [], ◌∷◌, refl, sym, ◌∙◌, ap, None, arith}
+-- What an engine says of what it holds is what its history replies at the front.
+use Rattle.std.proofs.Common.{◌≡◌, ◌≤◌, ℕ, List, Option, Some, None, refl, sym}
+use Rattle.std.specs.FinMap.{get}
+use Rattle.std.specs.Option.{option_map_or}
+use Rattle.doc_engine.proofs.Reading.{read_at_front}
+use Rattle.doc_engine.specs.Held.{Held, IsAt, seen_of}
 use Rattle.doc_meaning.specs.Answers.{answer_in}
 use Rattle.doc_meaning.specs.History.{History, front, latest, merge}
-use Rattle.doc_model.specs.Queries.{Index, broken_query_rule, count_step, depth_step, directories_step, indexes_step}
-use Rattle.doc_model.specs.Queries.{near_step}
-use Rattle.doc_model.specs.declared.query.Case.{Case}
-use Rattle.doc_model.specs.declared.query.Case.TheVariants.{Auto}
-use Rattle.doc_model.specs.declared.query.Query.TheFolds.{fold-Query, fold-roll-Query}
-use Rattle.doc_model.specs.declared.query.Query.TheOpen.{Query-F}
-use Rattle.doc_model.specs.declared.query.Query.TheVariants as query
+use Rattle.doc_meaning.specs.Replies.{reply_at, unless_bad}
+use Rattle.doc_model.specs.Queries.{broken_query_rule}
+use Rattle.doc_model.specs.declared.query.Query.{Query}
+use Rattle.doc_model.specs.declared.refusal.QueryBad.{QueryBad}
+use Rattle.engine_session.specs.Step.{found_of, got_of}
 use Rattle.transcript.specs.Answers as a
-use Rattle.transcript.specs.Commands.{word_query}
+use Rattle.transcript.specs.declared.reply.Reply.{Reply}
 use Rattle.transcript.specs.declared.reply.Reply.TheVariants as reply
 
-folds : {X : Type 0} (step : Query-F X → X) (texts : List (List ℕ)) (case : Case)
-    → fold-Query X step (query.Word texts case) ≡ step (Query-F.Word texts case)
-folds {X} step texts case =
-    ap (fold-Query X step) (sym (query.rolls-Word texts case)) ∙ fold-roll-Query X step (Query-F.Word texts case)
+-- a broken rule is told, and else what was found
+told_at : (h : History) (broken : Option QueryBad) (uris : List (List ℕ)) → merge h ≤ front h
+    → a.reply_to_read (λ found. reply.Found (front h) (front h) found)
+    (unless_bad broken (reply_at h (front h) uris))
+    ≡ option_map_or a.reply_to_bad broken (reply.Found (front h) (front h) uris)
+told_at h (Some why) uris ordered = refl
+told_at h None uris ordered = rw (read_at_front h uris ordered) refl
 
--- a query for one word keeps the rules
-word_keeps : (word : List ℕ) (indexes : List Index) → broken_query_rule (word_query word) indexes ≡ None
-word_keeps word indexes = rw (
-  folds depth_step (word ∷ []) Auto,
-  folds count_step (word ∷ []) Auto,
-  folds directories_step (word ∷ []) Auto,
-  folds near_step (word ∷ []) Auto,
-  folds indexes_step (word ∷ []) Auto,
-) refl
+-- the reply to a search at the front
+pub found_at : (held : Held) (h : History) (q : Query) → IsAt held h → merge h ≤ front h
+    → found_of (seen_of held) q ≡ a.reply_to_search q h (front h)
+found_at held h q is ordered =
+    rw (is.front, is.settings, is.documents)
+    (sym (told_at h (broken_query_rule q h.base.settings.indexes) (answer_in (latest h) q) ordered))
 
--- what is found for a word at the front
-pub found_word : (h : History) (word : List ℕ) → merge h ≤ front h → a.reply_to_search (word_query word) h (front h)
-    ≡ reply.Found (front h) (front h) (answer_in (latest h) (word_query word))
-found_word h word ordered = rw (word_keeps word h.base.settings.indexes) (grind (arith, ordered))
+-- the reply to a get at the front
+pub got_at : (held : Held) (h : History) (uri : List ℕ) → IsAt held h → merge h ≤ front h
+    → got_of (seen_of held) uri ≡ a.reply_to_get uri h (front h)
+got_at held h uri is ordered =
+    rw (is.front, is.documents, read_at_front h (get (latest h) uri) ordered) refl

@@ -1,15 +1,23 @@
 // How an engine answers the commands of a session.
 ghost use Rattle.std.specs.Prelude.{◌≡◌};
-ghost use Rattle.engine_session.specs.Step.{Finds, Step, said_of};
-ghost use Rattle.doc_engine.specs.Held.{seen_of, held_of};
+ghost use Rattle.doc_engine.specs.Held.{view_of};
+ghost use Rattle.engine_session.specs.Step.{Step};
+ghost use Rattle.transcript.specs.declared.reply.Reply.TheVariants as reply;
 
+mod commits;
+mod gets;
+mod searches;
+
+use commits::said_of;
 use disk_model::{Disk, Yard};
-use doc_engine::{CommitRefusal, Engine};
-use doc_model::Query;
+use doc_engine::{Engine, Snapshot};
+use gets::get;
+use searches::search;
 use std::alloc::Global;
 use transcript::{Command, Reply, When};
 
-/// The reply to a command. Commits and searches at the front are asked of the engine; it costs what they cost.
+/// The reply to a command. Commits, and gets, searches and stamps at the front are asked of the engine; it costs what
+/// they cost.
 pub(crate) fn reply<D: Disk, Y: Yard>(
     alloc: Global,
     engine: &mut Engine<D, Y>,
@@ -19,41 +27,25 @@ pub(crate) fn reply<D: Disk, Y: Yard>(
 {
     match command {
         Command::Commit(ops) => said_of(engine.commit(ops)),
+        Command::Get {
+            uri,
+            when: When::Front,
+        } => get(alloc, &engine.look(), &uri),
         Command::Search {
             query,
             when: When::Front,
-        } => search(alloc, engine, &query),
+        } => search(alloc, &engine.look(), &query),
+        Command::Stamp => stamp(&engine.look()),
         _ => Reply::Later,
     }
 }
 
-// What is found at the front.
-fn search<D: Disk, Y: Yard>(alloc: Global, engine: &Engine<D, Y>, query: &Query) -> Reply
-    ensures { Finds (seen_of (held_of engine.now)) query.now result }
+// The front, and the timestamp below which nothing is read.
+fn stamp(seen: &Snapshot<'_>) -> Reply
+    ensures { result ≡ reply.Stamp (view_of seen.now).front (view_of seen.now).merge }
 {
-    let seen = engine.look();
-    let front = seen.stamp();
-    match seen.answer(alloc, query) {
-        Ok(uris) => Reply::Found {
-            at: front,
-            front,
-            uris,
-        },
-        Err(_) => Reply::Memory,
-    }
-}
-
-// The reply that a commit's answer gives.
-fn said_of(answer: Result<u64, CommitRefusal>) -> Reply
-    ensures { result ≡ said_of answer }
-{
-    match answer {
-        Ok(at) => Reply::Ok(at),
-        Err(CommitRefusal::Down { .. }) => Reply::Down,
-        Err(CommitRefusal::Twice { uri }) => Reply::Twice { uri },
-        Err(CommitRefusal::Conflict { uri, found, front }) => Reply::Conflict { uri, found, front },
-        Err(CommitRefusal::Spent { front, .. }) => Reply::Spent { front },
-        Err(CommitRefusal::Fault) => Reply::Fault,
-        Err(CommitRefusal::Memory) => Reply::Memory,
+    Reply::Stamp {
+        front: seen.stamp(),
+        merge: seen.merge_stamp(),
     }
 }

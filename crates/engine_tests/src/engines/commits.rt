@@ -76,7 +76,7 @@ fn after_two_commits(alloc: Global) -> Result<MemoryEngine, Fail> {
 fn owls(alloc: Global, engine: &MemoryEngine) -> Result<Texts, Fail> {
     let query = word(alloc, "owl")?;
     let seen = engine.look();
-    Ok(seen.answer(alloc, &query)?)
+    Ok(seen.search(alloc, &query)?)
 }
 
 #[test]
