@@ -1,7 +1,9 @@
+pub mod Asking
 pub mod Attending
+pub mod Checked
 pub mod Keeping
 pub mod Lending
+pub mod Lines
 pub mod Made
-pub mod Printing
 pub mod Used
 pub mod Widening

@@ -9,8 +9,10 @@ use Rattle.disk_model.specs.declared.world.Store.{Store}
 use Rattle.disk_model.specs.declared.world.World
 use Rattle.disk_model.specs.declared.yard.Yard
 use Rattle.db_top.specs.Lending.{Lends, StandsIn}
+use Rattle.db_top.specs.Checking.{Checks}
 use Rattle.db_top.specs.Making.{Makes}
-use Rattle.db_top.specs.Runs.{MakesIn, Reports, ServesClient, ServesIn}
+use Rattle.db_top.specs.Runs.{ChecksIn, MakesIn, Reports, ServesClient, ServesIn}
+use Rattle.doc_meaning.specs.History.{BaseSettings}
 use Rattle.db_top.specs.Serving.{Serves}
 use Rattle.db_top.specs.Statuses.{lost_to, refused_as, status_of}
 use Rattle.db_top.specs.declared.status.Status.{Status}
@@ -44,6 +46,9 @@ lost_used status.Fault used is = absurd (cc)
 lost_used status.Memory used is = absurd (cc)
 lost_used (status.Damaged file place) used is = absurd (cc)
 
+pub poor_used : (s : Status) → s ≡ status.Memory → s ≢ status.Usage
+poor_used s is used = absurd (cc)
+
 -- what lending ends in isn't `usage`, where what was done meanwhile doesn't
 lends_used : {A : Type 0} (Does : A → A → Status → Type 0) (Stands : A → Type 0) (before now : ℕ) (old new : Handed A)
     (given : A) (told : Option A) (result : Status) → ((after : A) (s : Status) → Does given after s → s ≢ status.Usage)
@@ -64,8 +69,9 @@ reports_used before now printed printed' text earlier result (inr failed) used i
 
 module _ {W D Y P I O F B : Type 0} (disk : Disk.Ghosts D) (yard : Yard.Ghosts Y F B) (source : Source.Ghosts I)
     (sink : Sink.Ghosts O) (world : World.Ghosts W D Y P I O F B) where
-  makes_used : (before after : Store D Y) (result : Status) → Makes disk before after result → result ≢ status.Usage
-  makes_used before after result makes is =
+  makes_used : (settings : BaseSettings) (before after : Store D Y) (result : Status)
+      → Makes disk settings before after result → result ≢ status.Usage
+  makes_used settings before after result makes is =
       elim makes.makes [ inl made ↦ absurd (cc) | inr refuses ↦ refused_used refuses.why (sym refuses.ends ∙ is) ]
 
   serves_used : (before after : Store D Y) (given back : Client I O P) (result : Status)
@@ -84,13 +90,31 @@ module _ {W D Y P I O F B : Type 0} (disk : Disk.Ghosts D) (yard : Yard.Ghosts Y
       (λ back s. serves_used before after served.given back s) served.lends is
   client_used old new before after result (inr none) is = absurd (cc)
 
-  pub makes_in_used : (directory : List ℕ) (old new : W) (result : Status)
-      → MakesIn disk yard source sink world directory old new result → result ≢ status.Usage
-  makes_in_used directory old new result makes is =
+  pub makes_in_used : (settings : BaseSettings) (directory : List ℕ) (old new : W) (result : Status)
+      → MakesIn disk yard source sink world settings directory old new result → result ≢ status.Usage
+  makes_in_used settings directory old new result makes is =
       elim makes.makes [
-        | inl stored ↦ lends_used (Makes disk) (StandsIn disk yard world directory new) (world.faults old)
+        | inl stored ↦ lends_used (Makes disk settings) (StandsIn disk yard world directory new) (world.faults old)
             (world.faults new) (world.stores old) (world.stores new) stored.given stored.told result
-            (λ after s. makes_used stored.given after s) stored.lends is
+            (λ after s. makes_used settings stored.given after s) stored.lends is
+        | inr none ↦ absurd (cc none.ends)
+      ]
+
+  checks_used : (done : List ℕ) (before after : Store D Y) (result : Status) → Checks disk done before after result
+      → result ≢ status.Usage
+  checks_used done before after result checks is =
+      elim checks.checks [
+        | inl tells ↦ absurd (cc tells.ends)
+        | inr refuses ↦ refused_used refuses.why (sym refuses.ends ∙ is)
+      ]
+
+  pub checks_in_used : (done directory : List ℕ) (old new : W) (result : Status)
+      → ChecksIn disk yard source sink world done directory old new result → result ≢ status.Usage
+  checks_in_used done directory old new result checks is =
+      elim checks.checks [
+        | inl stored ↦ lends_used (Checks disk done) (StandsIn disk yard world directory new) (world.faults old)
+            (world.faults new) (world.stores old) (world.stores new) stored.given stored.told result
+            (λ after s. checks_used done stored.given after s) stored.lends is
         | inr none ↦ absurd (cc none.ends)
       ]
 

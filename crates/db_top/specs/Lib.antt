@@ -1,6 +1,6 @@
-pub mod Asked
 pub mod Statuses
 pub mod Lending
 pub mod Making
 pub mod Serving
+pub mod Checking
 pub mod Runs

@@ -1,5 +1,5 @@
 -- What `init` does with the store of a directory.
-use Rattle.std.specs.Prelude.{◌≡◌, ◌≢◌, ◌⊎◌, ◌≤◌, [], IfSome, IsSome}
+use Rattle.std.specs.Prelude.{◌≡◌, ◌≢◌, ◌⊎◌, ◌≤◌, IfSome, IsSome}
 use Rattle.disk_model.specs.Causes.{Rose}
 use Rattle.disk_model.specs.Logs.{Image}
 use Rattle.disk_model.specs.declared.disk.Disk
@@ -17,16 +17,12 @@ use Rattle.journal.specs.Opening.{MakesShown}
 use Rattle.journal.specs.Refusing.{HasNoRoot}
 use Rattle.journal_meaning.specs.Shown.{Shows}
 
--- without indexes; a save is due at 10,000 fragments, and a merge at 8 parts
-abbrev pub default_settings : BaseSettings
-default_settings = record { indexes = []; save_at = 10000; merge_at = 8 }
-
-module _ {D : Type 0} (disk : Disk.Ghosts D) where
-  -- a directory without a root was made, and each image shows the empty base
+module _ {D : Type 0} (disk : Disk.Ghosts D) (settings : BaseSettings) where
+  -- a directory without a root was made, and each image shows the empty base of the settings
   pub record HasMade (image : Image) (after : D) : Type 0 where
     pub none : HasNoRoot image
     pub told : IsSome (disk.seen after)
-    pub shows : (c : Image) → disk.may_leave after c → Shows c (empty_base default_settings)
+    pub shows : (c : Image) → disk.may_leave after c → Shows c (empty_base settings)
 
   -- a directory wasn't made, for this reason; unless the disk failed it was only read
   pub record RefusesToMake (before after : D) (result : Status) : Type 0 where
@@ -41,7 +37,7 @@ module _ {D : Type 0} (disk : Disk.Ghosts D) where
   -- or whose root logs are damaged, each shows what one showed before, and the bytes are as before
   pub record KeepsUntilMade (before after : D) : Type 0 where
     pub images : IsSome (disk.seen before)
-        → MakesShown disk.may_leave disk.moment disk.left_since default_settings before after
+        → MakesShown disk.may_leave disk.moment disk.left_since settings before after
     pub used : IfSome (disk.seen before) (λ image. IsUsed image
         → OnlyRead disk.seen disk.may_leave disk.moment disk.left_since before after)
 

@@ -9,7 +9,10 @@ use Rattle.disk_model.specs.declared.world.Client.{Client}
 use Rattle.disk_model.specs.declared.world.Store.{Store}
 use Rattle.disk_model.specs.declared.world.World
 use Rattle.disk_model.specs.declared.yard.Yard
-use Rattle.db_top.specs.Asked.{AsksInit, AsksRun, DoNotFit}
+use Rattle.doc_meaning.specs.History.{BaseSettings, settings_of}
+use Rattle.doc_model.specs.declared.settings.Settings.{Settings}
+use Rattle.command_words.specs.Asked.{AsksCheck, AsksInit, AsksRun, DoNotFit}
+use Rattle.db_top.specs.Checking.{Checks}
 use Rattle.db_top.specs.Lending.{HandsNothing, Lends, StandsIn, StandsStill, StoodIn}
 use Rattle.db_top.specs.Making.{Makes}
 use Rattle.db_top.specs.Serving.{Serves}
@@ -50,10 +53,16 @@ module _ {W D Y P I O F B : Type 0} (disk : Disk.Ghosts D) (yard : Yard.Ghosts Y
     pub rose : Rose (world.faults old) (world.faults new)
     pub ends : result ≡ status.Fault
 
-  -- the store of a directory was handed out, a database made there or refused, and it was put back; or the world
-  -- failed. No client was handed out
-  pub record MakesIn (directory : List ℕ) (old new : W) (result : Status) : Type 0 where
-    pub makes : LendsStore (Makes disk) directory old new result ⊎ LendsNoStore old new result
+  -- the store of a directory was handed out, a database of these settings made there or refused, and it was put back;
+  -- or the world failed. No client was handed out
+  pub record MakesIn (settings : BaseSettings) (directory : List ℕ) (old new : W) (result : Status) : Type 0 where
+    pub makes : LendsStore (Makes disk settings) directory old new result ⊎ LendsNoStore old new result
+    pub clients : world.clients new ≡ world.clients old
+
+  -- the store of a directory was handed out and opened or not, and it was put back; `done` is the text of what it holds.
+  -- Or the world failed. No client was handed out
+  pub record ChecksIn (done : List ℕ) (directory : List ℕ) (old new : W) (result : Status) : Type 0 where
+    pub checks : LendsStore (Checks disk done) directory old new result ⊎ LendsNoStore old new result
     pub clients : world.clients new ≡ world.clients old
 
   -- a client was handed out, served with a store or not, and put back; or the world failed, and the store is as it was
@@ -71,8 +80,14 @@ module _ {W D Y P I O F B : Type 0} (disk : Disk.Ghosts D) (yard : Yard.Ghosts Y
 
   -- what was asked was done with the world; `done` is the text of it
   pub data HasDone (words : List (List ℕ)) (old new : W) (result : Status) (done : List ℕ) : Type 0 where
-    init : (directory : List ℕ) → AsksInit words directory → MakesIn directory old new result
-        → done ≡ ended (codes "made") → HasDone words old new result done
+    init : (directory : List ℕ) (settings : Settings) → AsksInit words directory settings
+        → MakesIn (settings_of settings) directory old new result → done ≡ ended (codes "made")
+        → HasDone words old new result done
+    -- there was no memory for the settings, and no store was asked for
+    poor : (directory : List ℕ) (settings : Settings) → AsksInit words directory settings → new ≡ old
+        → result ≡ status.Memory → HasDone words old new result done
+    check : (directory : List ℕ) → AsksCheck words directory → ChecksIn done directory old new result
+        → HasDone words old new result done
     run : (directory : List ℕ) → AsksRun words directory → ServesIn directory old new result
         → done ≡ [] → HasDone words old new result done
     usage : DoNotFit words → new ≡ old → result ≡ status.Usage → done ≡ [] → HasDone words old new result done

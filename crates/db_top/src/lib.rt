@@ -1,12 +1,13 @@
 //! The top call.
 #![tactic(auto)]
 
+mod checking;
+mod lines;
 mod making;
 mod program;
 mod reporting;
 mod serving;
 mod status;
-mod words;
 
 pub use program::run;
 pub use status::Status;

@@ -120,6 +120,31 @@ fn a_run_finds_no_database_and_reads_nothing(rt: HostRuntime) -> Result<(), Fail
     Ok(())
 }
 
+// A directory is checked before it is made, empty, and with a document.
+fn check_thrice(rt: &impl Abort, alloc: Global, world: &mut MemoryWorld) -> Result<(), Fail>
+    requires { IsIdle ⟦<MemoryDisk as Disk>⟧ ⟦<MemoryYard as Yard>⟧ ⟦<MemoryWorld as World>⟧ world.old }
+    ensures { IsIdle ⟦<MemoryDisk as Disk>⟧ ⟦<MemoryYard as Yard>⟧ ⟦<MemoryWorld as World>⟧ world.new }
+{
+    let before = runs(alloc, &["check", "d"], world)?;
+    assert_eq!(rt; (before, before.code()), (Status::NotThere, 2));
+    let made = ["init", "d", "--save-at=5", "--range", "a:b:decimal"];
+    check_done(rt, alloc, &made, world)?;
+    check_done(rt, alloc, &["check", "d"], world)?;
+    check_done(rt, alloc, &["run", "d"], world)?;
+    check_done(rt, alloc, &["check", "--", "d"], world)
+}
+
+#[test]
+fn a_check_says_what_the_database_holds(rt: HostRuntime) -> Result<(), Fail> {
+    let mut world = world(rt.alloc(), &[PUT], Fails::Nothing)?;
+    check_thrice(&rt, rt.alloc(), &mut world)?;
+    assert_eq!(rt;
+        printed(&world)?,
+        "not there\nmade\nok front 0 merge 0 parts 0 live 0\nok front 1 merge 0 parts 0 live 1\n"
+    );
+    Ok(())
+}
+
 // Of two `init` of one directory the second one is refused.
 fn init_twice(rt: &impl Abort, alloc: Global, world: &mut MemoryWorld) -> Result<(), Fail>
     requires { IsIdle ⟦<MemoryDisk as Disk>⟧ ⟦<MemoryYard as Yard>⟧ ⟦<MemoryWorld as World>⟧ world.old }
@@ -164,7 +189,7 @@ fn check_untouched(rt: &impl Abort, world: &MemoryWorld) -> Result<(), Fail> {
 
 #[test]
 fn words_that_do_not_fit_say_usage(rt: HostRuntime) -> Result<(), Fail> {
-    let lines: [&[&str]; 12] = [
+    let lines: [&[&str]; 15] = [
         &[],
         &[""],
         &["run"],
@@ -177,6 +202,9 @@ fn words_that_do_not_fit_say_usage(rt: HostRuntime) -> Result<(), Fail> {
         &["", "d"],
         &["run", "d", "e"],
         &["init", "d", ""],
+        &["init", "d", "--save-at", "05"],
+        &["init", "d", "--merge-at", "2", "--merge-at", "3"],
+        &["check", "d", "--range", "a:string"],
     ];
     for words in lines {
         check_usage(&rt, rt.alloc(), words)?;

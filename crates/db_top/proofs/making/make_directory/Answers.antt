@@ -1,6 +1,7 @@
 use Rattle.std.proofs.Common.{inl, refl}
 use Rattle.db_top.proofs.Lending.{lends_store, loses_store, rose_since}
 use Rattle.db_top.specs.Making.{Makes}
+use Rattle.doc_meaning.specs.History.{settings_of}
 use Rattle.db_top.proofs.making.make_directory.Goals as goal
 
 pub returns-in-Ok-put_store-clause-makes : goal.returns-in-Ok-put_store-clause-makes
@@ -19,7 +20,7 @@ returns-in-Ok-put_store-clause-makes g c =
             others = took.others;
           })
           (record { stores = refl; directories = refl; stands = refl })
-          (Makes g.W.Disk.Disk) c.make-store.result.0 c.make-store.result.1 c.make-store.ensures
+          (Makes g.W.Disk.Disk (settings_of c.args.settings)) c.make-store.result.0 c.make-store.result.1 c.make-store.ensures
           (record { back = put.back; directories = put.directories; others = put.others }) put.stands);
       clients = cc;
     }
@@ -40,7 +41,7 @@ returns-in-Err-clause-makes g c =
             others = took.others;
           })
           (record { stores = refl; directories = refl; stands = refl })
-          (Makes g.W.Disk.Disk) c.make-store.result.0 c.make-store.result.1 c.make-store.ensures
+          (Makes g.W.Disk.Disk (settings_of c.args.settings)) c.make-store.result.0 c.make-store.result.1 c.make-store.ensures
           put.directories put.others put.back (rose_since (g.W.World.faults c.args.world.now)
           (g.W.World.faults c.take_store.new.self) (g.W.World.faults c.put_store.new.self) took.cause.later
           put.cause.failed));

@@ -1,0 +1,4 @@
+pub mod UseLemmas
+pub mod RangeLemmas
+pub mod ReadingLemmas
+pub mod TellingLemmas
