@@ -5,7 +5,7 @@ import platform
 import sys
 import tempfile
 
-from timing import ROUNDS, best, draws
+from timing import ROUNDS, best, draws, in_memory, make
 
 PROGRAM, MOST = sys.argv[1], int(sys.argv[2])
 COUNTS = [count for count in (10_000, 100_000, 1_000_000) if count <= MOST]
@@ -31,12 +31,12 @@ def main():
     print("cpu: seconds of the processor; cat: seconds that cat takes for the same file")
     print("%10s %9s %9s %9s %9s %9s %9s" % ("puts", "seconds", "puts/s", "ratio", "added", "cpu", "cat"))
     put_before, took_before = 0, 0.0
-    with tempfile.TemporaryDirectory() as work:
-        source, target = os.path.join(work, "puts"), os.path.join(work, "replies")
+    with tempfile.TemporaryDirectory(dir=in_memory()) as work:
+        directory, source, target = (os.path.join(work, name) for name in ("d", "puts", "replies"))
         for count in COUNTS:
             write_puts(source, count)
             copied, _ = best(["cat"], source, target)
-            took, worked = best([PROGRAM, "run", "d"], source, target)
+            took, worked = best([PROGRAM, "run", directory], source, target, lambda: make(PROGRAM, directory))
             if last_line(target) != "ok %d" % count:
                 sys.exit("the last reply is %r" % last_line(target))
             ratio = "%.2f" % (count / took * took_before / put_before) if put_before else "-"

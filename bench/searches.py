@@ -5,7 +5,7 @@ import platform
 import sys
 import tempfile
 
-from timing import ROUNDS, best, draws
+from timing import ROUNDS, best, draws, in_memory, make
 
 PROGRAM, MOST = sys.argv[1], int(sys.argv[2])
 COUNTS = [count for count in (1_000, 10_000, 100_000) if count <= MOST]
@@ -41,13 +41,14 @@ def main():
     print("ratio: of the last to that of the line above; grep: milliseconds that grep -cw takes over the puts")
     print("%10s %10s %10s %9s %9s" % ("documents", "a search", "a document", "ratio", "grep"))
     before = None
-    with tempfile.TemporaryDirectory() as work:
-        puts, both, target = (os.path.join(work, name) for name in ("puts", "both", "replies"))
+    with tempfile.TemporaryDirectory(dir=in_memory()) as work:
+        directory, puts, both, target = (os.path.join(work, name) for name in ("d", "puts", "both", "replies"))
+        run = [PROGRAM, "run", directory]
         for count in COUNTS:
             write(puts, put_lines(count))
             write(both, put_lines(count), search_lines())
-            alone, _ = best([PROGRAM, "run", "d"], puts, target)
-            whole, _ = best([PROGRAM, "run", "d"], both, target)
+            alone, _ = best(run, puts, target, lambda: make(PROGRAM, directory))
+            whole, _ = best(run, both, target, lambda: make(PROGRAM, directory))
             if len(found_in(target)) != SEARCHES:
                 sys.exit("%d searches were answered" % len(found_in(target)))
             matched, _ = best(["grep", "-cw", "word397", puts], puts, target)

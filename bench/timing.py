@@ -1,6 +1,8 @@
 """What the scripts of this folder share: texts drawn by a fixed rule, and the times of a command."""
 
+import os
 import resource
+import shutil
 import subprocess
 import sys
 import time
@@ -27,5 +29,20 @@ def seconds(command, source, target):
     return end - start, now.ru_utime - used.ru_utime + now.ru_stime - used.ru_stime
 
 
-def best(command, source, target):
-    return [min(column) for column in zip(*(seconds(command, source, target) for _ in range(ROUNDS)))]
+def best(command, source, target, prepare=lambda: None):
+    rounds = []
+    for _ in range(ROUNDS):
+        prepare()
+        rounds.append(seconds(command, source, target))
+    return [min(column) for column in zip(*rounds)]
+
+
+def in_memory():
+    """A folder in memory, where a sync takes no time, or none where there is no such folder."""
+    return "/dev/shm" if os.access("/dev/shm", os.W_OK) else None
+
+
+def make(program, directory):
+    """An empty database in the directory."""
+    shutil.rmtree(directory, ignore_errors=True)
+    subprocess.run([program, "init", directory], stdout=subprocess.DEVNULL, check=True)

@@ -1,21 +1,43 @@
-ghost use Rattle.std.specs.Prelude.{◌≤◌};
-ghost use Rattle.disk_model.specs.Causes.{Rose};
+ghost use Rattle.std.specs.Prelude.{◌≡◌, ◌≤◌, Ok, IfOk};
+ghost use Rattle.disk_model.specs.Causes.{HasCause, Rose};
 
 use disk_model::Failed;
+use std::io;
 
 /// How often something failed. The count stays at 2^64-1.
 #[derive(Drop)]
 pub struct Count {
+    rt: HostRuntime,
     pub faults: u64,
 }
 
 impl Count {
-    /// Counts a fault.
-    pub fn fail(&mut self) -> Failed
+    /// Nothing failed yet.
+    pub fn new(rt: HostRuntime) -> Self
+        ensures { result.faults ≡ 0 }
+    {
+        Count { rt, faults: 0 }
+    }
+
+    /// Counts an error, and tells it on standard error with the name of what failed.
+    pub fn fail(&mut self, name: &str, error: io::Error) -> Failed
         ensures rose { Rose self.old.faults self.new.faults }
         ensures later { self.old.faults ≤ self.new.faults }
     {
+        // Where this can't be written either, there is nobody to tell.
+        let _ = eprintln!(self.rt; "docdb: {name}: {error}");
         self.faults = self.faults.saturating_add(1);
         Failed
+    }
+
+    /// What the system answered, where an error is counted.
+    pub fn counted<T: Drop>(&mut self, name: &str, answer: io::Result<T>) -> Result<T, Failed>
+        ensures value { IfOk result (λ value. answer ≡ Ok value) }
+        ensures cause { HasCause self.old.faults self.new.faults result }
+    {
+        match answer {
+            Ok(value) => Ok(value),
+            Err(error) => Err(self.fail(name, error)),
+        }
     }
 }

@@ -1,39 +1,55 @@
-ghost use Rattle.std.specs.Prelude.{◌≡◌, None};
+// Where the lines of a client come from, and where its replies go.
+ghost use Rattle.std.specs.Prelude.{None};
 
 use crate::count::Count;
 use disk_model::{Failed, Sink, Source};
-use std::io::{Read, Write};
+use std::fs::File;
+use std::io::{Read, Stdin, Stdout, Write};
 
-/// Any reader, with a count of its errors.
+/// What is read.
 #[derive(Drop)]
-pub struct Reading<R: Read> {
-    inner: R,
+pub enum Input {
+    Standard(Stdin),
+    File(File),
+}
+
+/// What is written to.
+#[derive(Drop)]
+pub enum Output {
+    Standard(Stdout),
+    File(File),
+}
+
+/// Standard input or a file. It doesn't tell what is left. Each read is one call of the system.
+#[derive(Drop)]
+pub struct SystemSource {
+    name: String,
+    input: Input,
     count: Count,
 }
 
-impl<R: Read> Reading<R> {
-    /// Nothing failed yet.
-    pub fn new(inner: R) -> Self
-        ensures inner { result.inner ≡ inner }
-        ensures faults { result.count.faults ≡ 0 }
-    {
-        Reading {
-            inner,
-            count: Count { faults: 0 },
+impl SystemSource {
+    /// What is read, under the name that failures are told by.
+    pub fn new(rt: HostRuntime, name: String, input: Input) -> Self {
+        SystemSource {
+            name,
+            input,
+            count: Count::new(rt),
         }
     }
 }
 
-impl<R: Read + Send + Drop> Source for Reading<R> {
-    ghost left = { λ s. R.remaining s.inner };
+impl Source for SystemSource {
+    ghost left = { λ s. None };
 
     ghost faults = { λ s. s.count.faults };
 
     fn read(&mut self, out: &mut [u8]) -> Result<usize, Failed> {
-        match self.inner.read(out) {
-            Ok(count) => Ok(count),
-            Err(_) => Err(self.count.fail()),
-        }
+        let answer = match &mut self.input {
+            Input::Standard(stream) => stream.read(out),
+            Input::File(file) => file.read(out),
+        };
+        self.count.counted(self.name.as_str(), answer)
     }
 
     fn faults(&self) -> u64 {
@@ -41,40 +57,36 @@ impl<R: Read + Send + Drop> Source for Reading<R> {
     }
 }
 
-/// Any writer, with a count of its errors. It doesn't tell what was written. Each write is flushed.
+/// Standard output or a file. It doesn't tell what was written. It keeps nothing back: each piece goes to the system.
 #[derive(Drop)]
-pub struct Writing<W: Write> {
-    inner: W,
+pub struct SystemSink {
+    name: String,
+    output: Output,
     count: Count,
 }
 
-impl<W: Write> Writing<W> {
-    /// Nothing failed yet.
-    pub fn new(inner: W) -> Self
-        ensures inner { result.inner ≡ inner }
-        ensures faults { result.count.faults ≡ 0 }
-    {
-        Writing {
-            inner,
-            count: Count { faults: 0 },
+impl SystemSink {
+    /// What is written to, under the name that failures are told by.
+    pub fn new(rt: HostRuntime, name: String, output: Output) -> Self {
+        SystemSink {
+            name,
+            output,
+            count: Count::new(rt),
         }
     }
 }
 
-impl<W: Write + Send + Drop> Sink for Writing<W> {
+impl Sink for SystemSink {
     ghost written = { λ s. None };
 
     ghost faults = { λ s. s.count.faults };
 
     fn write(&mut self, bytes: &[u8]) -> Result<(), Failed> {
-        let result = self
-            .inner
-            .write_all(bytes)
-            .and_then(|()| self.inner.flush());
-        match result {
-            Ok(()) => Ok(()),
-            Err(_) => Err(self.count.fail()),
-        }
+        let answer = match &mut self.output {
+            Output::Standard(stream) => stream.write_all(bytes),
+            Output::File(file) => file.write_all(bytes),
+        };
+        self.count.counted(self.name.as_str(), answer)
     }
 
     fn faults(&self) -> u64 {

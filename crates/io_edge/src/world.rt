@@ -1,34 +1,31 @@
-// One client over streams, and a place to print.
-ghost use Rattle.std.specs.Prelude.{◌≤◌, vec_len};
+// The real world.
 
 mod calls;
 
 use crate::count::Count;
-use crate::streams::{Reading, Writing};
-use disk_memory::{MemoryPort, MemoryWorld};
-use disk_model::Client;
-use std::io::{Read, Write};
-use std::snapshot::Snapshot;
+use crate::directory::Missing;
+use crate::disk::SystemDisk;
+use crate::port::SystemPort;
+use crate::seats::Seats;
+use crate::streams::{SystemSink, SystemSource};
+use crate::yard::SystemYard;
+use disk_model::{Client, Store};
+use std::alloc::Global;
 
-/// What serves a client over streams.
-pub type StreamClient<R, W> = Client<Reading<R>, Writing<W>, MemoryPort>;
+/// What a directory holds.
+pub type SystemStore = Store<SystemDisk, SystemYard>;
 
-// The client as it was handed out, and as it came back.
+/// What serves one client.
+pub type SystemClient = Client<SystemSource, SystemSink, SystemPort>;
+
+/// The files of directories, client files and the standard streams. It tells nothing of what they hold.
 #[derive(Drop)]
-struct Seat<R: Read + Send + Drop, W: Write + Send + Drop> {
-    out: Snapshot<Client<Reading<R>, Writing<W>, MemoryPort>>,
-    back: Option<Client<Reading<R>, Writing<W>, MemoryPort>>,
-}
-
-/// One client over a reader and a writer, and a writer to print to. Its stores and ports are those of a world in memory
-/// so far.
-#[derive(Drop)]
-pub struct StreamWorld<R: Read + Send + Drop, W: Write + Send + Drop> {
-    waiting: Option<Client<Reading<R>, Writing<W>, MemoryPort>>,
-    seats: Vec<Seat<R, W>>,
-    returned: usize,
-    stores: MemoryWorld,
-    printer: W,
+pub struct SystemWorld {
+    rt: HostRuntime,
+    alloc: Global,
+    missing: Missing,
+    stores: Seats<Store<SystemDisk, SystemYard>>,
+    directories: Vec<String>,
+    clients: Seats<Client<SystemSource, SystemSink, SystemPort>>,
     count: Count,
-    ghost within: { returned ≤ vec_len seats },
 }
