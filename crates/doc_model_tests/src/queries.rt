@@ -30,10 +30,6 @@ fn one(alloc: Global, query: Query) -> Result<Queries, AllocError> {
     Ok(queries)
 }
 
-fn or(alloc: Global, query: Query) -> Result<Query, AllocError> {
-    Ok(Query::Or(one(alloc, query)?))
-}
-
 fn not(alloc: Global, query: Query) -> Result<Query, AllocError> {
     Ok(Query::Not(Boxed::new(alloc, query)?))
 }
@@ -47,28 +43,6 @@ fn near(alloc: Global, second: Query) -> Result<Query, AllocError> {
         distance: 3,
         ordered: true,
     })
-}
-
-fn in_ands(alloc: Global, query: Query, times: u32) -> Result<Query, AllocError> {
-    let mut query = query;
-    for _ in 0..times {
-        query = Query::And(one(alloc, query)?);
-    }
-    Ok(query)
-}
-
-/// The answer to a query of two more queries within each other than so many.
-fn answer_at_depth(alloc: Global, times: u32) -> Result<&'static str, AllocError> {
-    let inner = or(alloc, in_ands(alloc, Query::True, times)?)?;
-    Ok(answer(alloc, &not(alloc, inner)?))
-}
-
-#[test]
-fn depths(rt: HostRuntime) -> Result<(), Fail> {
-    for (times, wanted) in [(29, "ok"), (30, "deep")] {
-        assert_eq!(rt; answer_at_depth(rt.alloc(), times)?, wanted);
-    }
-    Ok(())
 }
 
 /// So many texts, all of them alike.
@@ -134,47 +108,6 @@ fn answer_of_copy(alloc: Global, more: usize) -> Result<&'static str, AllocError
 fn counts_of_copies(rt: HostRuntime) -> Result<(), Fail> {
     for (more, wanted) in [(9_983, "ok"), (9_984, "many")] {
         assert_eq!(rt; answer_of_copy(rt.alloc(), more)?, wanted);
-    }
-    Ok(())
-}
-
-fn directory_answer(alloc: Global, uri: &str) -> Result<&'static str, AllocError> {
-    let uris = texts(alloc, ["/", uri].as_slice())?;
-    let infinite = true;
-    Ok(answer(alloc, &not(alloc, Query::Directory { uris, infinite })?))
-}
-
-#[test]
-fn directories(rt: HostRuntime) -> Result<(), Fail> {
-    for (uri, wanted) in [
-        ("/", "ok"),
-        ("/d/", "ok"),
-        ("/d", "directory"),
-        ("", "directory"),
-    ] {
-        assert_eq!(rt; directory_answer(rt.alloc(), uri)?, wanted, "{uri}");
-    }
-    Ok(())
-}
-
-/// A query of this form.
-fn child(alloc: Global, form: &str) -> Result<Query, AllocError> {
-    match form {
-        "word" => word(alloc),
-        "near" => near(alloc, word(alloc)?),
-        _ => Ok(Query::True),
-    }
-}
-
-fn near_answer(alloc: Global, form: &str) -> Result<&'static str, AllocError> {
-    let inner = or(alloc, or(alloc, child(alloc, form)?)?)?;
-    Ok(answer(alloc, &in_ands(alloc, near(alloc, inner)?, 1)?))
-}
-
-#[test]
-fn children_of_near(rt: HostRuntime) -> Result<(), Fail> {
-    for (form, wanted) in [("word", "ok"), ("near", "near"), ("true", "near")] {
-        assert_eq!(rt; near_answer(rt.alloc(), form)?, wanted, "{form}");
     }
     Ok(())
 }

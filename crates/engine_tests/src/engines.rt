@@ -1,8 +1,6 @@
-// Commits, the bytes that they leave, a fault, and directories that are opened again.
-mod bytes;
+// Commits that are refused, and a fault.
 mod commits;
 mod faults;
-mod opening;
 
 use crate::fixtures::{object, plain_settings, put};
 use disk_memory::{MemoryDisk, MemoryYard, Meter, Plan, blank_logs};

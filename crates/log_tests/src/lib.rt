@@ -2,10 +2,6 @@
 #![tactic(auto)]
 
 #[cfg(test)]
-mod contents;
-#[cfg(test)]
 mod disks;
 #[cfg(test)]
 mod frames;
-#[cfg(test)]
-mod journals;

@@ -2,12 +2,6 @@
 #![tactic(auto)]
 
 #[cfg(test)]
-mod bodies;
-#[cfg(test)]
 mod documents;
 #[cfg(test)]
-mod json;
-#[cfg(test)]
 mod lines;
-#[cfg(test)]
-mod queries;
