@@ -21,8 +21,8 @@ use denote.Ref.{Bor}
 ends_apart : (a b : List ℕ) → a ++ codes ":decimal" ≡ b ++ codes ":string" → ⊥
 ends_apart a b is =
     let ends : reverse (codes ":decimal") ++ reverse a ≡ reverse (codes ":string") ++ reverse b =
-        sym (reverse-append a (codes ":decimal"))
-        ∙ (ap (λ (l : List ℕ). reverse l) is ∙ reverse-append b (codes ":string")) in
+    sym (reverse-append a (codes ":decimal"))
+    ∙ (ap (λ (l : List ℕ). reverse l) is ∙ reverse-append b (codes ":string")) in
     let bad : ◌≡◌ {A = ℕ} 0x6C 0x67 = ap (λ (l : List ℕ). get_or l 0 0) ends in absurd (omega arith)
 
 -- two indexes aren't written alike
@@ -89,16 +89,16 @@ pub twice : (olds : List Index) (i : Index) (others : List Index) → is_indexed
     → no_index_twice (olds ++ i ∷ others) ≡ false
 twice [] i others is = absurd (false≢true is)
 twice (x ∷ xs) i others is = elim (either (index_eq i x)) [
-    | inl same ↦
+  | inl same ↦
       let first : is_indexed (xs ++ i ∷ others) x ≡ true =
-          list_any-append (index_eq x) xs (i ∷ others)
-          ∙ or_true (list_any (index_eq x) xs) (index_eq x i || list_any (index_eq x) others)
-          (ap (λ (b : Bool). b || list_any (index_eq x) others) (turned x i ∙ same)) in
+      list_any-append (index_eq x) xs (i ∷ others)
+      ∙ or_true (list_any (index_eq x) xs) (index_eq x i || list_any (index_eq x) others)
+      (ap (λ (b : Bool). b || list_any (index_eq x) others) (turned x i ∙ same)) in
       ap (λ (b : Bool). not b && no_index_twice (xs ++ i ∷ others)) first
-    | inr apart ↦
+  | inr apart ↦
       and_false (not (is_indexed (xs ++ i ∷ others) x)) (no_index_twice (xs ++ i ∷ others))
       (twice xs i others (ap (λ (b : Bool). b || is_indexed xs i) (sym apart) ∙ is))
-  ]
+]
 
 -- an index that stands nowhere is added
 pub once_more : (olds : List Index) (i : Index) → no_index_twice olds ≡ true → is_indexed olds i ≡ false
@@ -108,9 +108,9 @@ once_more (x ∷ xs) i distinct is =
     let here = both (not (is_indexed xs x)) (no_index_twice xs) distinct in
     let apart = neither (index_eq i x) (is_indexed xs i) is in
     let none : is_indexed (xs ++ i ∷ []) x ≡ false =
-        list_any-append (index_eq x) xs (i ∷ [])
-        ∙ (ap (λ (b : Bool). b || (index_eq x i || false)) (not-true (is_indexed xs x) here.0)
-        ∙ ap (λ (b : Bool). b || false) (turned x i ∙ apart.0)) in
+    list_any-append (index_eq x) xs (i ∷ [])
+    ∙ (ap (λ (b : Bool). b || (index_eq x i || false)) (not-true (is_indexed xs x) here.0)
+    ∙ ap (λ (b : Bool). b || false) (turned x i ∙ apart.0)) in
     ap (λ (b : Bool). not b && no_index_twice (xs ++ i ∷ [])) none ∙ once_more xs i here.1 apart.1
 
 pub added : (olds : List Index) (i : Index) → length olds < 64 → is_indexed olds i ≡ false
@@ -118,7 +118,7 @@ pub added : (olds : List Index) (i : Index) → length olds < 64 → is_indexed 
 added olds i room apart good =
     let here = both (nat_le (length olds) 64) (no_index_twice olds) good in
     let few : nat_le (length (olds ++ i ∷ [])) 64 ≡ true =
-        le-leb (length (olds ++ i ∷ [])) 64 (omega (arith, length-append olds (i ∷ []))) in
+    le-leb (length (olds ++ i ∷ [])) 64 (omega (arith, length-append olds (i ∷ []))) in
     ap (λ (b : Bool). b && no_index_twice (olds ++ i ∷ [])) few ∙ once_more olds i here.1 apart
 
 -- what is written begins with what was read
@@ -137,9 +137,9 @@ goes_on (o ∷ olds) [] text more is =
     absurd (nothing (range_text o) (map range_text olds ++ text ∷ more) (sym is))
 goes_on (o ∷ olds) (i ∷ is') text more is =
     let same = range_once o i
-        (heads (range_text o) (range_text i) (map range_text olds ++ text ∷ more) (map range_text is') is) in
+    (heads (range_text o) (range_text i) (map range_text olds ++ text ∷ more) (map range_text is') is) in
     let rest = goes_on olds is' text more
-        (tails (range_text o) (range_text i) (map range_text olds ++ text ∷ more) (map range_text is') is) in
+    (tails (range_text o) (range_text i) (map range_text olds ++ text ∷ more) (map range_text is') is) in
     record {
       next = rest.next;
       others = rest.others;
@@ -165,15 +165,15 @@ refuses olds indexes text more why is names distinct =
       | inl out_of_form ↦ out_of_form g.next (name_in olds g.next g.others all) g.written
       | inr also ↦ elim also [
         | inl x ↦
-          let same = range_once x.0 g.next (sym x.1 ∙ g.written) in
-          let again : is_indexed olds g.next ≡ true = subst (λ (i : Index). is_indexed olds i ≡ true) same x.2 in
-          false≢true (sym (twice olds g.next g.others again)
-          ∙ (ap (λ (l : List Index). no_index_twice l) (sym g.split) ∙ parts.1))
+            let same = range_once x.0 g.next (sym x.1 ∙ g.written) in
+            let again : is_indexed olds g.next ≡ true = subst (λ (i : Index). is_indexed olds i ≡ true) same x.2 in
+            false≢true (sym (twice olds g.next g.others again)
+            ∙ (ap (λ (l : List Index). no_index_twice l) (sym g.split) ∙ parts.1))
         | inr full ↦
-          let few = leb-true (length indexes) 64 parts.0 in
-          let long : length indexes ≡ length (olds ++ g.next ∷ g.others) =
-              ap (λ (l : List Index). length l) g.split in
-          absurd (omega (arith, length-append olds (g.next ∷ g.others)))
+            let few = leb-true (length indexes) 64 parts.0 in
+            let long : length indexes ≡ length (olds ++ g.next ∷ g.others) =
+            ap (λ (l : List Index). length l) g.split in
+            absurd (omega (arith, length-append olds (g.next ∷ g.others)))
       ]
     ]
 
@@ -189,15 +189,15 @@ pub taken : (old new : List Range) (range : Range) (text : List ℕ) → new ≡
     → AddsRange (indexes_in old) (indexes_in new) text
 taken old new range text is room apart good =
     let split : indexes_in new ≡ indexes_in old ++ index_of range ∷ [] =
-        ap (λ (l : List Range). indexes_in l) is ∙ map-append index_of old (range ∷ []) in
+    ap (λ (l : List Range). indexes_in l) is ∙ map-append index_of old (range ∷ []) in
     record {
       index = index_of range;
       name = good.0;
       written = good.1;
       added = split;
       distinct = λ before. subst (λ (l : List Index). IsTrue (is_index_list l)) (sym split)
-        (added (indexes_in old) (index_of range) (omega (arith, length-map old index_of))
-        (sym (has_indexed old range) ∙ apart) before);
+          (added (indexes_in old) (index_of range) (omega (arith, length-map old index_of))
+          (sym (has_indexed old range) ∙ apart) before);
     }
 
 pub refused_full : (old : List Range) (text : List ℕ) → 64 ≤ length old → RefusesRange (indexes_in old) text

@@ -63,14 +63,14 @@ adds_word old new text none is found of uses holds =
     let at = word_at text found of in
     subst (λ (r : Reading). Holds r (uses ++ found ∷ [])) (sym is) (record {
       named = one_more place_of uses found text.now (at range_value).0
-        ∙ ap (λ (l : List (List ℕ)). l ++ text.now ∷ []) (holds.named ∙ ap listed none);
+          ∙ ap (λ (l : List (List ℕ)). l ++ text.now ∷ []) (holds.named ∙ ap listed none);
       ranges = same_still (value_of range_value) uses found (at range_value).1 ∙ holds.ranges;
       names = holds.names;
       distinct = holds.distinct;
       save = still_filled 1 1000000 _ _ old.save_at (same_still (value_of save_value) uses found (at save_value).1)
-        holds.save;
+          holds.save;
       merge = still_filled 2 64 _ _ old.merge_at (same_still (value_of merge_value) uses found (at merge_value).1)
-        holds.merge;
+          holds.merge;
     })
 
 pub adds_range : (old new : Reading) (value : Bor (List ℕ)) → new ≡ record old { ranges = new.ranges }
@@ -79,23 +79,23 @@ pub adds_range : (old new : Reading) (value : Bor (List ℕ)) → new ≡ record
 adds_range old new value is adds found of uses holds =
     let at = value_at setting.Range value found of in
     let names : All (λ (index : Index). IsName index.0) (indexes_in new.ranges.items) =
-        subst (λ (l : List Index). All (λ (index : Index). IsName index.0) l) (sym adds.added)
-        (All-append (λ (index : Index). IsName index.0) (indexes_in old.ranges.items) (adds.index ∷ []) holds.names
-        (All-cons (λ (index : Index). IsName index.0) adds.index [] adds.name
-        (All-nil (λ (index : Index). IsName index.0)))) in
+    subst (λ (l : List Index). All (λ (index : Index). IsName index.0) l) (sym adds.added)
+    (All-append (λ (index : Index). IsName index.0) (indexes_in old.ranges.items) (adds.index ∷ []) holds.names
+    (All-cons (λ (index : Index). IsName index.0) adds.index [] adds.name
+    (All-nil (λ (index : Index). IsName index.0)))) in
     subst (λ (r : Reading). Holds r (uses ++ found ∷ [])) (sym is) (record {
       named = same_still place_of uses found (at range_value).0 ∙ holds.named;
       ranges = one_more (value_of range_value) uses found value.now (at range_value).1
-        ∙ (ap (λ (l : List (List ℕ)). l ++ value.now ∷ []) holds.ranges
-        ∙ (ap (λ (t : List ℕ). map range_text (indexes_in old.ranges.items) ++ t ∷ []) adds.written
-        ∙ (sym (map-append range_text (indexes_in old.ranges.items) (adds.index ∷ []))
-        ∙ ap (λ (l : List Index). map range_text l) (sym adds.added))));
+          ∙ (ap (λ (l : List (List ℕ)). l ++ value.now ∷ []) holds.ranges
+          ∙ (ap (λ (t : List ℕ). map range_text (indexes_in old.ranges.items) ++ t ∷ []) adds.written
+          ∙ (sym (map-append range_text (indexes_in old.ranges.items) (adds.index ∷ []))
+          ∙ ap (λ (l : List Index). map range_text l) (sym adds.added))));
       names = names;
       distinct = adds.distinct holds.distinct;
       save = still_filled 1 1000000 _ _ old.save_at (same_still (value_of save_value) uses found (at save_value).1)
-        holds.save;
+          holds.save;
       merge = still_filled 2 64 _ _ old.merge_at (same_still (value_of merge_value) uses found (at merge_value).1)
-        holds.merge;
+          holds.merge;
     })
 
 filled : (least most : ℕ) (f : Use → List (List ℕ)) (uses : List Use) (u : Use) (value : List ℕ) (n : ℕ)
@@ -117,7 +117,7 @@ adds_save old new value n none is good found of uses holds =
       distinct = holds.distinct;
       save = filled 1 1000000 (value_of save_value) uses found value.now n was (at save_value).1 good;
       merge = still_filled 2 64 _ _ old.merge_at (same_still (value_of merge_value) uses found (at merge_value).1)
-        holds.merge;
+          holds.merge;
     })
 
 pub adds_merge : (old new : Reading) (value : Bor (List ℕ)) (n : ℕ) → old.merge_at ≡ None
@@ -132,7 +132,7 @@ adds_merge old new value n none is good found of uses holds =
       names = holds.names;
       distinct = holds.distinct;
       save = still_filled 1 1000000 _ _ old.save_at (same_still (value_of save_value) uses found (at save_value).1)
-        holds.save;
+          holds.save;
       merge = filled 2 64 (value_of merge_value) uses found value.now n was (at merge_value).1 good;
     })
 
@@ -158,10 +158,10 @@ pub refuses_word : (old : Reading) (text : Bor (List ℕ)) → IsSome old.direct
 refuses_word old text full found of uses more holds behind directory settings settle =
     let at = word_at text found of in
     let all : (places uses ++ text.now ∷ flat_map place_of more) ++ behind ≡ directory ∷ [] =
-        ap (λ (l : List (List ℕ)). l ++ behind) (sym (amid place_of uses found more text.now (at range_value).0))
-        ∙ settle.named in
+    ap (λ (l : List (List ℕ)). l ++ behind) (sym (amid place_of uses found more text.now (at range_value).0))
+    ∙ settle.named in
     let one = only_one (places uses) text.now (flat_map place_of more ++ behind) directory
-        (sym (append_assoc (places uses) (text.now ∷ flat_map place_of more) behind) ∙ all) in
+    (sym (append_assoc (places uses) (text.now ∷ flat_map place_of more) behind) ∙ all) in
     not_listed old.directory full (sym holds.named ∙ one.0)
 
 pub refuses_range : (old : Reading) (value : Bor (List ℕ)) → RefusesRange (indexes_in old.ranges.items) value.now
@@ -186,18 +186,18 @@ not_given : (default least most : ℕ) (f : Use → List (List ℕ)) (uses : Lis
     (value : List ℕ) (slot : Option ℕ) (n : ℕ) → NotGiven least most slot value → f u ≡ value ∷ []
     → IsFilled least most (flat_map f uses) slot → IsGiven (flat_map f (uses ++ u ∷ more)) default least most n → ⊥
 not_given default least most f uses u more value slot n why one kept given = elim given [
-    | inl none ↦
+  | inl none ↦
       let long : length (flat_map f uses ++ value ∷ flat_map f more) ≡ 0 =
-          ap (λ (l : List (List ℕ)). length l) (sym (amid f uses u more value one) ∙ none.0) in
+      ap (λ (l : List (List ℕ)). length l) (sym (amid f uses u more value one) ∙ none.0) in
       absurd (omega (arith, length-append (flat_map f uses) (value ∷ flat_map f more)))
-    | inr some ↦
+  | inr some ↦
       let here = only_one (flat_map f uses) value (flat_map f more) some.0
-          (sym (amid f uses u more value one) ∙ some.1) in
+      (sym (amid f uses u more value one) ∙ some.1) in
       elim why [
         | inl bad ↦ bad n (subst (λ (t : List ℕ). IsNumber least most t n) (sym here.1) some.2)
         | inr full ↦ not_filled least most (flat_map f uses) slot full kept here.0
       ]
-  ]
+]
 
 pub refuses_save : (old : Reading) (value : Bor (List ℕ)) → NotGiven 1 1000000 old.save_at value.now
     → Refuses old (Given SaveAt value)

@@ -28,8 +28,8 @@ read_more words old new rest rest' taken s f adds = record {
   uses = s.uses ++ f.found ∷ [];
   each = All-append IsUse s.uses (f.found ∷ []) s.each (All-cons IsUse f.found [] f.is_use (All-nil IsUse));
   written = s.written ∙ (ap (λ (l : List (List ℕ)). flat_map words_of s.uses ++ l) f.written
-    ∙ (sym (append_assoc (flat_map words_of s.uses) (words_of f.found) rest')
-    ∙ ap (λ (l : List (List ℕ)). l ++ rest') (sym (pushed words_of s.uses f.found))));
+      ∙ (sym (append_assoc (flat_map words_of s.uses) (words_of f.found) rest')
+      ∙ ap (λ (l : List (List ℕ)). l ++ rest') (sym (pushed words_of s.uses f.found))));
   holds = adds f.found f.of s.uses s.holds;
 }
 
@@ -125,8 +125,8 @@ pub nothing_fits : (words others : List (List ℕ)) (verb : List ℕ) → words 
     → DoNotFit words
 nothing_fits words others verb is none = record {
   init = λ directory settings asks. none asks.uses asks.behind directory settings
-    (subst (λ (l : List (List ℕ)). AreUses l asks.uses asks.behind)
-    (others_same verb (codes "init") words others asks.others is asks.command) asks.read) asks.settle;
+      (subst (λ (l : List (List ℕ)). AreUses l asks.uses asks.behind)
+      (others_same verb (codes "init") words others asks.others is asks.command) asks.read) asks.settle;
   run = λ directory asks. bare_none words others verb (codes "run") is none directory asks;
   check = λ directory asks. bare_none words others verb (codes "check") is none directory asks;
 }
@@ -181,8 +181,8 @@ bare_asked verb words others reading directory is all bare = record {
   command = is;
   read = all.read;
   bare = all_words all.uses (all.holds.ranges ∙ ap (λ (l : List Range). map range_text (indexes_in l)) bare.0)
-    (unfilled 1 1000000 (values save_value all.uses) reading.save_at bare.1 all.holds.save)
-    (unfilled 2 64 (values merge_value all.uses) reading.merge_at bare.2 all.holds.merge);
+      (unfilled 1 1000000 (values save_value all.uses) reading.save_at bare.1 all.holds.save)
+      (unfilled 2 64 (values merge_value all.uses) reading.merge_at bare.2 all.holds.merge);
   named = all.named;
 }
 
@@ -208,17 +208,17 @@ pub not_bare : (verb verb' : List ℕ) (words others : List (List ℕ)) (reading
     → (named : List ℕ) → AsksOf verb' words named → ⊥
 not_bare verb verb' words others reading directory is all given named asks =
     let read = subst (λ (l : List (List ℕ)). AreUses l asks.uses asks.behind)
-        (others_same verb verb' words others asks.others is asks.command) asks.read in
+    (others_same verb verb' words others asks.others is asks.command) asks.read in
     let g = go_on all.uses asks.uses all.read.rest read.rest asks.behind all.read.each read.each read.ends
-        (sym all.read.written ∙ read.written) in
+    (sym all.read.written ∙ read.written) in
     let bare = subst (λ (us : List Use). All IsWord us) g.split asks.bare in
     let mine = front_words all.uses g.more bare in
     given (
       no_ranges reading.ranges.items (sym all.holds.ranges ∙ none_given range_value all.uses mine),
       empty_slot 1 1000000 (values save_value all.uses) reading.save_at (none_given save_value all.uses mine)
-      all.holds.save,
+          all.holds.save,
       empty_slot 2 64 (values merge_value all.uses) reading.merge_at (none_given merge_value all.uses mine)
-      all.holds.merge,
+          all.holds.merge,
     )
 
 pub refused_of : {T E P : Type 0} (r : Result T E) → None ≡ result_ok r → OnErr r P → P

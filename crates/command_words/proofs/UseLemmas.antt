@@ -71,9 +71,10 @@ first_of (joined s v) (apart s' v') a b p q is =
     absurd (apart_or_joined s' s v (sym (heads (spelled s ++ 0x3D ∷ v) (spelled s') a (v' ∷ b) is)))
 first_of (joined s v) (joined s' v') a b p q is =
     let same = same_setting s s' (0x3D ∷ v) (0x3D ∷ v')
-    (heads (spelled s ++ 0x3D ∷ v) (spelled s' ++ 0x3D ∷ v') a b is) in
-    (ap (λ x. joined x v) same.0 ∙ ap (λ x. joined s' x) (tails 0x3D 0x3D v v' same.1),
-    tails (spelled s ++ 0x3D ∷ v) (spelled s' ++ 0x3D ∷ v') a b is)
+    (heads (spelled s ++ 0x3D ∷ v) (spelled s' ++ 0x3D ∷ v') a b is) in (
+      ap (λ x. joined x v) same.0 ∙ ap (λ x. joined s' x) (tails 0x3D 0x3D v v' same.1),
+      tails (spelled s ++ 0x3D ∷ v) (spelled s' ++ 0x3D ∷ v') a b is,
+    )
 
 end_apart : (s : Setting) (tail : List ℕ) → codes "--" ≡ spelled s ++ tail → ⊥
 end_apart Range tail is = let bad : ◌≡◌ {A = ℕ} 0 0x72 = ap (λ (l : List ℕ). get_or l 2 0) is in absurd (omega arith)
@@ -175,9 +176,9 @@ apart_first text words w s tail value seen named none some is given same p = rec
   is_use = subst (λ (x : List ℕ). HasNoDash x) (same ∙ sym given) p;
   of = (refl, refl);
   written = ap (λ (t : List ℕ). t ∷ map string_bytes words)
-    (named ∙ (ap (λ (t : List ℕ). spelled s ++ t) none ∙ append-nil (spelled s)))
-    ∙ (ap (λ (l : List (List ℕ)). spelled s ∷ l) (first_word words w some is)
-    ∙ ap (λ (t : List ℕ). spelled s ∷ t ∷ map string_bytes (take (length words - 1) (drop 1 words))) (sym given));
+      (named ∙ (ap (λ (t : List ℕ). spelled s ++ t) none ∙ append-nil (spelled s)))
+      ∙ (ap (λ (l : List (List ℕ)). spelled s ∷ l) (first_word words w some is)
+      ∙ ap (λ (t : List ℕ). spelled s ∷ t ∷ map string_bytes (take (length words - 1) (drop 1 words))) (sym given));
 }
 
 pub plain_first : (words : List (String Global)) (w : String Global) (text : Bor (List ℕ)) (seen : List ℕ)
@@ -188,7 +189,7 @@ plain_first words w text seen some is given same p = record {
   is_use = subst (λ (x : List ℕ). HasNoDash x) (same ∙ sym given) p;
   of = refl;
   written = first_word words w some is
-    ∙ ap (λ (t : List ℕ). t ∷ map string_bytes (take (length words - 1) (drop 1 words))) (sym given);
+      ∙ ap (λ (t : List ℕ). t ∷ map string_bytes (take (length words - 1) (drop 1 words))) (sym given);
 }
 
 pub no_words : (words : List (String Global)) → length words < 1 → BeginWithoutUse (map string_bytes words)
@@ -237,6 +238,8 @@ only_before before rest text seen some is end =
 pub only_behind : (before : Option (Bor (List ℕ))) (rest : List (List ℕ)) (text seen word' : List ℕ)
     → before ≡ None → rest ≡ seen ∷ word' ∷ [] → seen ≡ codes "--" → text ≡ word'
     → (behind : List (List ℕ)) × Ends rest behind × (listed before ++ behind ≡ text ∷ [])
-only_behind before rest text seen word' none is end same =
-    (word' ∷ [], inr (is ∙ ap (λ (t : List ℕ). t ∷ word' ∷ []) end),
-    ap (λ (b : Option (Bor (List ℕ))). listed b ++ word' ∷ []) none ∙ ap (λ (t : List ℕ). t ∷ []) (sym same))
+only_behind before rest text seen word' none is end same = (
+  word' ∷ [],
+  inr (is ∙ ap (λ (t : List ℕ). t ∷ word' ∷ []) end),
+  ap (λ (b : Option (Bor (List ℕ))). listed b ++ word' ∷ []) none ∙ ap (λ (t : List ℕ). t ∷ []) (sym same),
+)

@@ -78,9 +78,7 @@ fn is_name(name: &str) -> bool
 fn has(ranges: &[Range<'_>], wanted: Range<'_>) -> bool
     ensures { result ≡ has_range ranges.now wanted.entry }
 {
-    ranges
-        .iter()
-        .any(|range| wanted.name == range.name && wanted.kind == range.kind)
+    ranges.iter().any(|range| wanted.name == range.name && wanted.kind == range.kind)
 }
 
 // The same indexes, with memory of their own.

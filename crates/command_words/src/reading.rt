@@ -4,8 +4,8 @@ ghost use Rattle.command_words.specs.declared.uses.Argument.TheVariants.{Given};
 ghost use Rattle.command_words.specs.Reading.{Adds, FindsOnly, FindsReading, Holds, IsBare, Refuses, listed};
 
 use crate::numbers::number;
-use crate::scan::is;
 use crate::ranges::{MOST_RANGES, Range, take_range};
+use crate::scan::is;
 use crate::uses::{Argument, Setting, next_use};
 use arrayvec::ArrayVec;
 
@@ -47,14 +47,7 @@ impl<'a> Reading<'a> {
     }
 
     // Takes the value of an option.
-    #[tactic(auto, using(
-        crate::proofs::ReadingLemmas::adds_range,
-        crate::proofs::ReadingLemmas::adds_save,
-        crate::proofs::ReadingLemmas::adds_merge,
-        crate::proofs::ReadingLemmas::refuses_range,
-        crate::proofs::ReadingLemmas::refuses_save,
-        crate::proofs::ReadingLemmas::refuses_merge,
-    ))]
+    #[tactic(auto, using(crate::proofs::ReadingLemmas::adds_range, crate::proofs::ReadingLemmas::adds_save, crate::proofs::ReadingLemmas::adds_merge, crate::proofs::ReadingLemmas::refuses_range, crate::proofs::ReadingLemmas::refuses_save, crate::proofs::ReadingLemmas::refuses_merge,))]
     fn give(&mut self, setting: Setting, value: &'a str) -> Result<(), Unfit>
         ensures added { OnOk result (Adds self.old self.new (Given setting value.entry)) }
         ensures refused { OnErr result (Refuses self.old (Given setting value.entry)) }

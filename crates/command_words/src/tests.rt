@@ -36,9 +36,18 @@ fn told_init(alloc: Global, init: &Init<'_>) -> Result<String, Fail> {
 fn lines_ask_what_they_say(rt: HostRuntime) -> Result<(), Fail> {
     let rows = [
         ("init d", "init d 10000 8"),
-        ("init d --save-at=5 --range a:b:decimal", "init d 5 8 a:b Decimal"),
-        ("init --merge-at 64 d --save-at 1000000", "init d 1000000 64"),
-        ("init d --range a:string --range=-a:decimal", "init d 10000 8 a Text -a Decimal"),
+        (
+            "init d --save-at=5 --range a:b:decimal",
+            "init d 5 8 a:b Decimal",
+        ),
+        (
+            "init --merge-at 64 d --save-at 1000000",
+            "init d 1000000 64",
+        ),
+        (
+            "init d --range a:string --range=-a:decimal",
+            "init d 10000 8 a Text -a Decimal",
+        ),
         ("init -- -d", "init -d 10000 8"),
         ("init --save-at 1 -- --", "init -- 1 8"),
         ("run d", "run d"),

@@ -60,7 +60,8 @@ faultless_among [] behind part clean = clean.0
 faultless_among (first ∷ before) behind part clean = faultless_among before behind part clean.1
 
 -- a node that fits has no fault where its parts have none
-pub faultless_of : (wanted : Shape) (n : Node) (parts : List Part) → parts_of wanted n ≡ Some parts → AreFaultless parts →
+pub faultless_of : (wanted : Shape) (n : Node) (parts : List Part) → parts_of wanted n ≡ Some parts →
+    AreFaultless parts →
     IsFaultless wanted n
 faultless_of wanted n parts fits clean number fault =
     let found = in_part fault parts fits in
@@ -78,7 +79,8 @@ parts_from wanted n parts before (part ∷ rest) fits clean are = (
 )
 
 -- and its parts have none where it has none
-pub parts_faultless : (wanted : Shape) (n : Node) (parts : List Part) → parts_of wanted n ≡ Some parts → IsFaultless wanted n →
+pub parts_faultless : (wanted : Shape) (n : Node) (parts : List Part) → parts_of wanted n ≡ Some parts →
+    IsFaultless wanted n →
     AreFaultless parts
 parts_faultless wanted n parts fits clean = parts_from wanted n parts [] parts fits clean refl
 

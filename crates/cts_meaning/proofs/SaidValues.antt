@@ -27,7 +27,8 @@ use Rattle.cts_meaning.proofs.Wholes.{whole_is}
 
 module _ {A : Type 0} (spelled : A → Node) (item : Shape)
     (read : (n : Node) → IsFaultless item n → (a : A) × (n ≡ spelled a)) where
-  all_read : (items : List Node) → AreFaultless (item_parts item items) → (values : List A) × (items ≡ map spelled values)
+  all_read : (items : List Node) → AreFaultless (item_parts item items) →
+      (values : List A) × (items ≡ map spelled values)
   all_read [] clean = ([], refl)
   all_read (i ∷ items) clean =
       let first = read i clean.0 in

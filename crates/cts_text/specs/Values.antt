@@ -64,7 +64,8 @@ compare_in members =
 -- 10 where there is no distance
 abbrev pub distance_in : List Member → ℕ
 distance_in members =
-    unwrap_or (option_and_then (whole_within greatest_distance) (option_and_then number_in (value_of (codes "distance") members))) 10
+    unwrap_or (option_and_then (whole_within greatest_distance)
+    (option_and_then number_in (value_of (codes "distance") members))) 10
 
 abbrev pub is_infinite : List Member → Bool
 is_infinite members = option_map_or (is_text (codes "infinity")) (value_of (codes "depth") members) false

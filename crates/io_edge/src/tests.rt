@@ -10,11 +10,6 @@ const MISSING: &str = "io_edge_missing";
 
 const CLIENT: &str = "io_edge_client";
 
-/// A world that makes what is missing.
-fn maker(rt: &HostRuntime, alloc: Global) -> SystemWorld {
-    SystemWorld::new(*rt, alloc, Missing::Make)
-}
-
 #[test]
 fn a_directory_keeps_what_was_synced_and_sealed(rt: HostRuntime) -> Result<(), Fail> {
     let _ = fs::remove_dir_all(&rt, DIRECTORY);
@@ -29,7 +24,7 @@ fn a_directory_keeps_what_was_synced_and_sealed(rt: HostRuntime) -> Result<(), F
 
 /// A store that was filled, put back and taken once more.
 fn filled_store(rt: &HostRuntime, alloc: Global) -> Result<SystemStore, Fail> {
-    let mut world = maker(rt, alloc);
+    let mut world = SystemWorld::new(*rt, alloc, Missing::Make);
     let mut store = world.take_store(DIRECTORY).map_err(|_| "no store")?;
     store.disk.write_at(0, 1, b"ab").map_err(|_| "no write")?;
     store.disk.sync(0).map_err(|_| "no sync")?;
@@ -86,7 +81,7 @@ fn a_directory_that_is_left_as_missing_is_blank(rt: HostRuntime) -> Result<(), F
 #[test]
 fn a_client_file_is_read_and_answered(rt: HostRuntime) -> Result<(), Fail> {
     fs::write(&rt, CLIENT, "quit\n")?;
-    let mut world = maker(&rt, rt.alloc());
+    let mut world = SystemWorld::new(rt, rt.alloc(), Missing::Make);
     assert!(rt; world.client(Some("io_edge_nobody")).is_err());
     let mut client = world.client(Some(CLIENT)).map_err(|_| "no client")?;
     let mut bytes = [0u8; 8];

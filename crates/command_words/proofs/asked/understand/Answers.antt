@@ -30,15 +30,15 @@ returns-then-not-is_bare c =
     let others = map string_bytes (take (length c.args.words.now - 1) (drop 1 c.args.words.now)) in
     let seen = c.deref.result.now in
     let at : words ≡ seen ∷ others = first_text c.args.words.now c.command-item.result seen seen
-        c.in-len1-up.len_at_least c.command-item.is c.deref.ensures refl in
+    c.in-len1-up.len_at_least c.command-item.is c.deref.ensures refl in
     let given : IsBare c.in_ok-reading.reading → ⊥ = λ bare.
-        false≢true (sym c.if-not-is_bare.true ∙ c.is_bare.ensures.1 bare) in
+    false≢true (sym c.if-not-is_bare.true ∙ c.is_bare.ensures.1 bare) in
     record {
       init = λ d s. not_init seen words others d s at (λ e. false≢true (sym c.if-is.false ∙ c.is.ensures.1 e));
       run = λ d. not_bare seen (codes "run") words others c.in_ok-reading.reading c.in_ok-reading.directory.now at
-        c.in_ok-reading.ensures given d;
+          c.in_ok-reading.ensures given d;
       check = λ d. not_bare seen (codes "check") words others c.in_ok-reading.reading
-        c.in_ok-reading.directory.now at c.in_ok-reading.ensures given d;
+          c.in_ok-reading.directory.now at c.in_ok-reading.ensures given d;
     }
 
 pub returns-in-run : goal.returns-in-run
@@ -65,10 +65,10 @@ returns-in_default-as_str c =
     let others = map string_bytes (take (length c.args.words.now - 1) (drop 1 c.args.words.now)) in
     let seen = c.as_str.result.now in
     let at : words ≡ seen ∷ others = first_text c.args.words.now c.command-item.result seen seen
-        c.in-len1-up.len_at_least c.command-item.is c.as_str.ensures.value refl in
+    c.in-len1-up.len_at_least c.command-item.is c.as_str.ensures.value refl in
     record {
       init = λ d s. not_init seen words others d s at
-        (λ e. false≢true (sym c.if-is.false ∙ c.is.ensures.1 (c.deref.ensures ∙ sym c.as_str.ensures.value ∙ e)));
+          (λ e. false≢true (sym c.if-is.false ∙ c.is.ensures.1 (c.deref.ensures ∙ sym c.as_str.ensures.value ∙ e)));
       run = λ d. other_verb seen (codes "run") words others d at c.in_default-as_str.not-run;
       check = λ d. other_verb seen (codes "check") words others d at c.in_default-as_str.not-check;
     }

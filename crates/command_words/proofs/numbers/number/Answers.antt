@@ -30,17 +30,17 @@ same_number least most n found text r fits parses is number =
 pub returns-then-not-is_written : goal.returns-then-not-is_written
 returns-then-not-is_written c n number =
     let same = same_number c.args.least c.args.most n c.in_ok-number.number c.args.word.now c.parse.result
-        c.ranges.most.fits c.parse.ensures.value.0 c.in_ok-number.ensures.value number in
+    c.ranges.most.fits c.parse.ensures.value.0 c.in_ok-number.ensures.value number in
     false≢true (sym c.if-not-is_written.true
     ∙ c.is_written.ensures.1 (number.written ∙ ap decimal (sym same)))
 
 pub returns-then-number-least : goal.returns-then-number-least
 returns-then-number-least c n number =
     let same = same_number c.args.least c.args.most n c.in_ok-number.number c.args.word.now c.parse.result
-        c.ranges.most.fits c.parse.ensures.value.0 c.in_ok-number.ensures.value number in
+    c.ranges.most.fits c.parse.ensures.value.0 c.in_ok-number.ensures.value number in
     elim c.then-number-least.branch [
       | then-number-least-via-then-number-least w ↦
-        absurd (omega (arith, same, number.low, w.if-number-least.true))
+          absurd (omega (arith, same, number.low, w.if-number-least.true))
       | then-number-least-via-else-number-least+then-most-number w ↦
-        absurd (omega (arith, same, number.high, w.if-most-number.true))
+          absurd (omega (arith, same, number.high, w.if-most-number.true))
     ]

@@ -15,8 +15,11 @@ returns-then-has-clause-refused c =
 pub returns-clause-added : goal.returns-clause-added
 returns-clause-added c =
     taken c.args.ranges.now.items c.push.new.self.items c.in-Some.range c.args.word.now c.push.ensures.items
-    (omega (arith, eqb-false (length c.args.ranges.now.items) 64 (sym c.is_full.ensures.value ∙ c.if-is_full.false),
-    c.is_full.ensures.fits))
+    (omega (
+      arith,
+      eqb-false (length c.args.ranges.now.items) 64 (sym c.is_full.ensures.value ∙ c.if-is_full.false),
+      c.is_full.ensures.fits,
+    ))
     (ap (λ (l : List Range). has_range l c.in-Some.range) (sym c.as_slice.ensures.value)
     ∙ sym c.has.ensures ∙ c.if-has.false)
     c.in-Some.ensures

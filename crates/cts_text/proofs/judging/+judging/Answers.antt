@@ -107,7 +107,8 @@ judge_members-returns-in_err-next t c =
 pub judge_members-loop-member-preserved : goal.judge_members-loop-member-preserved
 judge_members-loop-member-preserved t c = record {
   goes =
-      members_more (rule_of c.args.shape).member c.args.members.now c.as_slice-member-items.result.now c.loop-member.member-index
+      members_more (rule_of c.args.shape).member c.args.members.now c.as_slice-member-items.result.now
+      c.loop-member.member-index
       c.member-item.result c.loop-member.next c.args.number c.as_slice-member-items.ensures c.loop-member-test.true
       c.member-item.is c.loop-member.invariant.goes c.in-Some.part c.in_ok-next.next
       (sym (ap (rule_of c.args.shape).member c.as_str.ensures) ∙ sym c.member_shape.ensures ∙ c.in-Some.is)

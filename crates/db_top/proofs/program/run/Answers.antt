@@ -15,27 +15,27 @@ returns-in-Some-Init-clause-run g c =
     let m = c.make_asked-status in
     elim m.ensures.makes [
       | inl made ↦ record {
-          middle = m.new.world;
-          earlier = m.result;
-          done = _;
-          does = runs.init init.directory.now (asked_settings init) asks made refl;
-          unprinted = m.ensures.printed;
-          reports = c.report.ensures.reports;
-          still = c.report.ensures.still;
-          clients = c.report.ensures.clients;
-          later = (m.ensures.later, c.report.ensures.later);
-        }
+        middle = m.new.world;
+        earlier = m.result;
+        done = _;
+        does = runs.init init.directory.now (asked_settings init) asks made refl;
+        unprinted = m.ensures.printed;
+        reports = c.report.ensures.reports;
+        still = c.report.ensures.still;
+        clients = c.report.ensures.clients;
+        later = (m.ensures.later, c.report.ensures.later);
+      }
       | inr poor ↦ record {
-          middle = m.new.world;
-          earlier = m.result;
-          done = _;
-          does = runs.poor init.directory.now (asked_settings init) asks poor.0 poor.1;
-          unprinted = m.ensures.printed;
-          reports = c.report.ensures.reports;
-          still = c.report.ensures.still;
-          clients = c.report.ensures.clients;
-          later = (m.ensures.later, c.report.ensures.later);
-        }
+        middle = m.new.world;
+        earlier = m.result;
+        done = _;
+        does = runs.poor init.directory.now (asked_settings init) asks poor.0 poor.1;
+        unprinted = m.ensures.printed;
+        reports = c.report.ensures.reports;
+        still = c.report.ensures.still;
+        clients = c.report.ensures.clients;
+        later = (m.ensures.later, c.report.ensures.later);
+      }
     ]
 
 pub returns-in-Some-Init-clause-usage : goal.returns-in-Some-Init-clause-usage
