@@ -26,28 +26,32 @@ pub empty_no_put : (line rest front json : List ℕ) → line ≡ codes "put " +
 empty_no_put line rest front json is cut none u j fits =
     let empty : front ≡ [] = nil_from_length front none in
     let same = word_once front u json j (subst (All IsNoSpace) (sym empty) (All-nil IsNoSpace)) fits.0.1
-        (sym cut ∙ put_rest line rest u j is fits) in
+    (sym cut ∙ put_rest line rest u j is fits) in
     let len : length front ≡ length u = ap length same.0 in
     omega (arith, len, fits.0.0)
 
 pub put_fits : (line rest uri json text : List ℕ) → line ≡ codes "put " ++ rest → rest ≡ uri ++ 0x20 ∷ json →
     ((i : ℕ) → i < length uri → get_or uri i 0 ≢ 0x20) → (length uri ≡ 0 → ⊥) → text ≡ json →
     Fits line (form.put uri text)
-put_fits line rest uri json text is cut clean some same =
-    ((omega (arith, some), All-from_get_or IsNoSpace uri 0 clean),
-    is ∙ ap (λ (l : List ℕ). codes "put " ++ l)
-    (cut ∙ (ap (λ (l : List ℕ). uri ++ 0x20 ∷ l) (sym same) ∙ sym (spaced uri text))))
+put_fits line rest uri json text is cut clean some same = (
+  (omega (arith, some), All-from_get_or IsNoSpace uri 0 clean),
+  is ∙ ap (λ (l : List ℕ). codes "put " ++ l)
+      (cut ∙ (ap (λ (l : List ℕ). uri ++ 0x20 ∷ l) (sym same) ∙ sym (spaced uri text))),
+)
 
 -- a text with no space is a word, if it isn't empty
 pub word_told : (text : List ℕ) (found : Bool) → 0 < length text →
     (found ≡ true → (k : ℕ) × (k < length text) × (get_or text k 0 ≡ 0x20)) →
     ((k : ℕ) → k < length text → get_or text k 0 ≡ 0x20 → found ≡ true) → IsTrue (not found) ↔ IsWord text
-word_told text true some there back =
-    (λ (h : IsTrue (not true)). absurd cc, λ (word : IsWord text).
-    let at = there refl in absurd (word.1 at.0 0 at.1 at.2))
-word_told text false some there back =
-    (λ h. (some, All-from_get_or IsNoSpace text 0 (λ k lt is. let h : false ≡ true = back k lt is in cc)),
-    λ word. refl)
+word_told text true some there back = (
+  λ (h : IsTrue (not true)). absurd cc,
+  λ (word : IsWord text).
+      let at = there refl in absurd (word.1 at.0 0 at.1 at.2),
+)
+word_told text false some there back = (
+  λ h. (some, All-from_get_or IsNoSpace text 0 (λ k lt is. let h : false ≡ true = back k lt is in cc)),
+  λ word. refl,
+)
 
 -- one text stands behind a head
 pub no_word_behind : (line head text : List ℕ) (found : Bool) → line ≡ head ++ text → (IsWord text → found ≡ true) →

@@ -19,27 +19,54 @@ line_spaced : (head word last line : List ℕ) → line ≡ head ++ (((word ++ 0
 line_spaced head word last line is = is ∙ ap (λ (l : List ℕ). head ++ l) (spaced word last)
 
 pub at_there : (line : List ℕ) → IsOfThese at_rows line → IsLaterText (λ n. n ≡ 3) line
-at_there line (inl (more, (digits, rest, (t, le, is), (uri, own, eq2), eq1), eq0)) =
-    (form.get (At t) uri, ((le, own),
-    spaced_line (codes "get at ") digits (decimal t) rest uri more line eq0 eq1 eq2 is), refl, refl)
-at_there line (inr (inl (more, (digits, rest, (t, le, is), (json, own, eq2), eq1), eq0))) =
-    (form.search (At t) json, (le,
-    spaced_line (codes "search at ") digits (decimal t) rest json more line eq0 eq1 eq2 is), refl, refl)
-at_there line (inr (inr (inl (more, (digits, rest, (t, le, is), (json, own, eq2), eq1), eq0)))) =
-    (form.estimate (At t) json, (le,
-    spaced_line (codes "estimate at ") digits (decimal t) rest json more line eq0 eq1 eq2 is), refl, refl)
+at_there line (inl (more, (digits, rest, (t, le, is), (uri, own, eq2), eq1), eq0)) = (
+  form.get (At t) uri,
+  (
+    (le, own),
+    spaced_line (codes "get at ") digits (decimal t) rest uri more line eq0 eq1 eq2 is,
+  ),
+  refl,
+  refl,
+)
+at_there line (inr (inl (more, (digits, rest, (t, le, is), (json, own, eq2), eq1), eq0))) = (
+  form.search (At t) json,
+  (
+    le,
+    spaced_line (codes "search at ") digits (decimal t) rest json more line eq0 eq1 eq2 is,
+  ),
+  refl,
+  refl,
+)
+at_there line (inr (inr (inl (more, (digits, rest, (t, le, is), (json, own, eq2), eq1), eq0)))) = (
+  form.estimate (At t) json,
+  (
+    le,
+    spaced_line (codes "estimate at ") digits (decimal t) rest json more line eq0 eq1 eq2 is,
+  ),
+  refl,
+  refl,
+)
 at_there line (inr (inr (inr none))) = absurd none
 
 pub at_back : (line : List ℕ) → IsLaterText (λ n. n ≡ 3) line → IsOfThese at_rows line
 at_back line (form.get (At t) uri, fits, later, words) =
-    inl (decimal t ++ 0x20 ∷ uri, (decimal t, 0x20 ∷ uri, (t, fits.0.0, refl), (uri, fits.0.1, refl), refl),
-    line_spaced (codes "get at ") (decimal t) uri line fits.1)
+    inl (
+      decimal t ++ 0x20 ∷ uri,
+      (decimal t, 0x20 ∷ uri, (t, fits.0.0, refl), (uri, fits.0.1, refl), refl),
+      line_spaced (codes "get at ") (decimal t) uri line fits.1,
+    )
 at_back line (form.search (At t) json, fits, later, words) =
-    inr (inl (decimal t ++ 0x20 ∷ json, (decimal t, 0x20 ∷ json, (t, fits.0, refl), (json, tt, refl), refl),
-    line_spaced (codes "search at ") (decimal t) json line fits.1))
+    inr (inl (
+      decimal t ++ 0x20 ∷ json,
+      (decimal t, 0x20 ∷ json, (t, fits.0, refl), (json, tt, refl), refl),
+      line_spaced (codes "search at ") (decimal t) json line fits.1,
+    ))
 at_back line (form.estimate (At t) json, fits, later, words) =
-    inr (inr (inl (decimal t ++ 0x20 ∷ json, (decimal t, 0x20 ∷ json, (t, fits.0, refl), (json, tt, refl), refl),
-    line_spaced (codes "estimate at ") (decimal t) json line fits.1)))
+    inr (inr (inl (
+      decimal t ++ 0x20 ∷ json,
+      (decimal t, 0x20 ∷ json, (t, fits.0, refl), (json, tt, refl), refl),
+      line_spaced (codes "estimate at ") (decimal t) json line fits.1,
+    )))
 at_back line (f, fits, later, words) = absurd (omega (arith, words))
 
 pub pinned_there : (line : List ℕ) → IsOfThese pinned_rows line → IsLaterText (λ n. n ≡ 2) line

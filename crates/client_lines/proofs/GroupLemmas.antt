@@ -76,17 +76,20 @@ unformed line at pinned others answered fixed both way ga gp go gn fc fw bc bw w
     let g1 = goes_or AtText PinnedText line at pinned fixed ga gp fc fw in
     let g2 = goes_or (λ l. AtText l ⊎ PinnedText l) OtherText line fixed others both g1 go bc bw in
     let g3 = goes_or (λ l. (AtText l ⊎ PinnedText l) ⊎ OtherText l) IsAnsweredText line both answered way g2 gn wc ww in
-    let g = goes_same Grouped IsFormText line way formed grouped g3 in
-    (λ is. out g1 (grouped line is), record {
-      within = g.within;
-      begins = begins g (cases_lt 0 way.count);
-      longest = g.longest;
-    })
+    let g = goes_same Grouped IsFormText line way formed grouped g3 in (
+      λ is. out g1 (grouped line is),
+      record {
+        within = g.within;
+        begins = begins g (cases_lt 0 way.count);
+        longest = g.longest;
+      },
+    )
   where
     out : GoesAtMost (λ l. AtText l ⊎ PinnedText l) line fixed → Grouped line → ⊥
     out g1 (inl (inl is)) = untrue fixed.whole f (g1.whole.1 is)
     out g1 (inl (inr is)) = untrue others.whole o (go.whole.1 is)
     out g1 (inr is) = none is
+
     begins : GoesAtMost IsFormText line way → ((0 < way.count) ⊎ (way.count ≤ 0)) →
         Begins IsFormText (take way.count line)
     begins g (inl some) = g.begins some

@@ -38,6 +38,7 @@ get_had line uri utf8 fits = had line (form.get Front uri) utf8 fits
   where
     rest_is : (rest : List ℕ) → line ≡ codes "get " ++ rest → uri ≡ rest
     rest_is rest is = append_cancel_left (codes "get ") uri rest (sym fits.1 ∙ is)
+
     none : (w : When) (u : List ℕ) (other : Form) → Fits line other → other ≡ form.get w u →
         length (words_before (form.get Front uri)) < length (words_before other) → ⊥
     none Front u other own is more = omega (arith, more, ap words is)

@@ -67,8 +67,11 @@ answered_there line (inr (inr (inr (inr (inr (inr (none))))))) = absurd none
 
 pub answered_back : (line : List ℕ) → IsAnsweredText line → IsOfThese answered_rows line
 answered_back line (form.put uri json, fits, is) =
-    inl (uri ++ 0x20 ∷ json, (uri, 0x20 ∷ json, fits.0, (json, tt, refl), refl),
-    line_spaced (codes "put ") uri json line fits.1)
+    inl (
+      uri ++ 0x20 ∷ json,
+      (uri, 0x20 ∷ json, fits.0, (json, tt, refl), refl),
+      line_spaced (codes "put ") uri json line fits.1,
+    )
 answered_back line (form.remove uri, fits, is) = inr (inl (uri, fits.0, fits.1))
 answered_back line (form.get Front uri, fits, is) = inr (inr (inl (uri, fits.0.1, fits.1)))
 answered_back line (form.search Front json, fits, is) = inr (inr (inr (inl (json, tt, fits.1))))

@@ -29,18 +29,25 @@ reach_behind IsText head rest n reach = record {
 }
   where
     begins : Begins IsText (take n rest) → Begins (Behind head IsText) (take (length head + n) (head ++ rest))
-    begins (x, is) = (x, (take n rest ++ x, is,
-        ap (λ (l : List ℕ). l ++ x) (take_behind head rest n) ∙ append_assoc head (take n rest) x))
+    begins (x, is) = (
+      x,
+      (
+        take n rest ++ x,
+        is,
+        ap (λ (l : List ℕ). l ++ x) (take_behind head rest n) ∙ append_assoc head (take n rest) x,
+      ),
+    )
+
     longest : (more : ℕ) → length head + n < more → more ≤ length (head ++ rest) →
         Begins (Behind head IsText) (take more (head ++ rest)) → ⊥
     longest more less le (x, (y, is, eq)) =
         let at : more ≡ length head + (more - length head) = omega arith in
         let front : take more (head ++ rest) ≡ head ++ take (more - length head) rest =
-            ap (λ (k : ℕ). take k (head ++ rest)) at ∙ take_behind head rest (more - length head) in
+        ap (λ (k : ℕ). take k (head ++ rest)) at ∙ take_behind head rest (more - length head) in
         let same : take (more - length head) rest ++ x ≡ y =
-            append_cancel_left head (take (more - length head) rest ++ x) y
-            (sym (append_assoc head (take (more - length head) rest) x)
-            ∙ (ap (λ (l : List ℕ). l ++ x) (sym front) ∙ eq)) in
+        append_cancel_left head (take (more - length head) rest ++ x) y
+        (sym (append_assoc head (take (more - length head) rest) x)
+        ∙ (ap (λ (l : List ℕ). l ++ x) (sym front) ∙ eq)) in
         reach.longest (more - length head) (omega arith) (omega (arith, length-append head rest))
         (x, subst IsText (sym same) is)
 
@@ -54,9 +61,15 @@ pub reach_left : (IsText : List ℕ → Type 0) (head line : List ℕ) (n : ℕ)
     (n < length line → get_or line n 0 ≡ get_or head n 0 → ⊥) → IsLongestPrefix (Behind head IsText) line n
 reach_left IsText head line n text is less le same apart = record {
   within = le;
-  begins = (drop n head ++ text, (text, is,
+  begins = (
+    drop n head ++ text,
+    (
+      text,
+      is,
       ap (λ (l : List ℕ). l ++ (drop n head ++ text)) same
-      ∙ (sym (append_assoc (take n head) (drop n head) text) ∙ ap (λ (l : List ℕ). l ++ text) (take-append-drop n head))));
+          ∙ (sym (append_assoc (take n head) (drop n head) text) ∙ ap (λ (l : List ℕ). l ++ text) (take-append-drop n head)),
+    ),
+  );
   longest = λ more lt within. longest more lt within;
 }
   where
@@ -64,7 +77,7 @@ reach_left IsText head line n text is less le same apart = record {
     longest more lt within (x, (y, own, eq)) =
         let len : length (take more line) ≡ more = length-take-le more line within in
         let left : get_or (take more line ++ x) n 0 ≡ get_or line n 0 =
-            get_or_append_left (take more line) x 0 n (omega arith) ∙ get_or-take more line n 0 lt in
+        get_or_append_left (take more line) x 0 n (omega arith) ∙ get_or-take more line n 0 lt in
         let right : get_or (head ++ y) n 0 ≡ get_or head n 0 = get_or_append_left head y 0 n less in
         apart (omega arith) (sym left ∙ (ap (λ (l : List ℕ). get_or l n 0) eq ∙ right))
 
@@ -72,6 +85,6 @@ pub not_whole_left : (IsText : List ℕ → Type 0) (head line : List ℕ) (n : 
     (n < length line → get_or line n 0 ≡ get_or head n 0 → ⊥) → Behind head IsText line → ⊥
 not_whole_left IsText head line n less apart (y, is, eq) =
     let right : get_or line n 0 ≡ get_or head n 0 =
-        ap (λ (l : List ℕ). get_or l n 0) eq ∙ get_or_append_left head y 0 n less in
+    ap (λ (l : List ℕ). get_or l n 0) eq ∙ get_or_append_left head y 0 n less in
     let long : length line ≡ length head + length y = ap length eq ∙ length-append head y in
     apart (omega arith) right

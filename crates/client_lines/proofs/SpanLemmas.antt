@@ -55,8 +55,10 @@ shorter_timestamp (suc k) a b len some (t, le, is) =
   where
     b_is : b ≡ take k b ++ get_or b k 0 ∷ []
     b_is = sym (take_all (k + 1) b (omega arith)) ∙ take_more b k 0 (omega arith)
+
     cut : decimal t ≡ (a ++ take k b) ++ get_or b k 0 ∷ []
     cut = sym is ∙ (ap (λ (l : List ℕ). a ++ l) b_is ∙ sym (append_assoc a (take k b) (get_or b k 0 ∷ [])))
+
     by : (IsTimestamp (a ++ take k b) → IsTimestamp a) →
         ((t < 10) × (a ++ take k b ≡ []) × (get_or b k 0 ≡ 48 + t))
         ⊎ ((10 ≤ t) × (a ++ take k b ≡ decimal (t / 10)) × (get_or b k 0 ≡ 48 + t % 10)) → IsTimestamp a
@@ -97,6 +99,7 @@ digit_behind v b small t le is = by (decimal_push t (decimal v) b (timestamp_sma
   where
     some : 0 < length (decimal v)
     some = decimal_nonempty v (timestamp_small v small)
+
     by : ((t < 10) × (decimal v ≡ []) × (b ≡ 48 + t))
         ⊎ ((10 ≤ t) × (decimal v ≡ decimal (t / 10)) × (b ≡ 48 + t % 10)) → (0 < v) × (t + 48 ≡ v * 10 + b)
     by (inl (lt, none, byte)) =
@@ -109,9 +112,11 @@ digit_behind v b small t le is = by (decimal_push t (decimal v) b (timestamp_sma
 -- one digit alone
 pub first_digit : (value : Option ℕ) (b d : ℕ) → value ≡ None → 48 ≤ b → b ≤ 57 → d ≡ b - 48 → IsNext value b (Some d)
 first_digit value b d none low high is =
-    let same : 48 + d ≡ b = omega arith in
-    (omega arith, decimal_digit d (omega arith) ∙ (ap (λ (k : ℕ). k ∷ []) same
-    ∙ ap (λ (v : Option ℕ). digits_of v ++ b ∷ []) (sym none)))
+    let same : 48 + d ≡ b = omega arith in (
+      omega arith,
+      decimal_digit d (omega arith) ∙ (ap (λ (k : ℕ). k ∷ []) same
+          ∙ ap (λ (v : Option ℕ). digits_of v ++ b ∷ []) (sym none)),
+    )
 
 -- none behind a zero
 pub zero_stays : (value : Option ℕ) (v b : ℕ) → value ≡ Some v → v ≡ 0 → IsNext value b None
@@ -127,9 +132,11 @@ more_digits value v b n None some pos small low high is past = λ (t : ℕ) le e
     omega (arith, h.1, past)
 more_digits value v b n (Some x) some pos small low high is found =
     let at : x ≡ v * 10 + (b - 48) = omega (arith, found.0) in
-    let digit : 48 + (b - 48) ≡ b = omega arith in
-    (found.1, ap decimal at ∙ (next_digit v (b - 48) pos (omega arith) (omega (arith, found.1))
-    ∙ (ap (λ (k : ℕ). decimal v ++ k ∷ []) digit ∙ ap (λ (w : Option ℕ). digits_of w ++ b ∷ []) (sym some))))
+    let digit : 48 + (b - 48) ≡ b = omega arith in (
+      found.1,
+      ap decimal at ∙ (next_digit v (b - 48) pos (omega arith) (omega (arith, found.1))
+          ∙ (ap (λ (k : ℕ). decimal v ++ k ∷ []) digit ∙ ap (λ (w : Option ℕ). digits_of w ++ b ∷ []) (sym some))),
+    )
 
 -- the digits so far
 pub digits_are : (value : Option ℕ) (bytes : List ℕ) (n : ℕ) → n ≤ length bytes → take n bytes ≡ digits_of value →
@@ -149,6 +156,7 @@ stops_at value bytes n b more so_far within byte none less le is = none shorter.
     shorter = shorter_span Timestamp (take (n + 1) bytes) (take (more - (n + 1)) (drop (n + 1) bytes))
         (omega (arith, length-take-le (n + 1) bytes (omega arith)))
         (subst IsTimestamp (prefix_more bytes (n + 1) more (omega arith)) is)
+
     front : take (n + 1) bytes ≡ digits_of value ++ b ∷ []
     front = take_more bytes n 0 within ∙ (ap (λ (l : List ℕ). l ++ get_or bytes n 0 ∷ []) so_far
         ∙ ap (λ (k : ℕ). digits_of value ++ k ∷ []) (sym byte))
@@ -169,8 +177,9 @@ word_stops bytes n more space less le word =
 
 pub word_is : (bytes : List ℕ) (n : ℕ) → ((k : ℕ) → k < n → get_or bytes k 0 ≢ 0x20) → n ≤ length bytes → 0 < n →
     IsSpan Word (take n bytes)
-word_is bytes n clean le some =
-    (omega (arith, length-take-le n bytes le),
-    All-from_get_or IsNoSpace (take n bytes) 0 (λ k lt is.
-    clean k (omega (arith, lt, length-take-le n bytes le))
-    (sym (get_or-take n bytes k 0 (omega (arith, lt, length-take-le n bytes le))) ∙ is)))
+word_is bytes n clean le some = (
+  omega (arith, length-take-le n bytes le),
+  All-from_get_or IsNoSpace (take n bytes) 0 (λ k lt is.
+      clean k (omega (arith, lt, length-take-le n bytes le))
+      (sym (get_or-take n bytes k 0 (omega (arith, lt, length-take-le n bytes le))) ∙ is)),
+)

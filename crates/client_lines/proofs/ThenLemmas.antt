@@ -22,10 +22,8 @@ pub record SpanEnds (span : Span) (bytes : List ℕ) (end : ℕ) : Type 0 where
   pub longest : (n : ℕ) → end < n → n ≤ length bytes → IsSpan span (take n bytes) → ⊥
 
 module _ (span : Span) (bytes : List ℕ) (end : ℕ) (ends : SpanEnds span bytes end) where
-
   module _ (m : ℕ) (x front more : List ℕ) (le : m ≤ length bytes) (is : IsSpan span front)
       (eq : take m bytes ++ x ≡ front ++ more) where
-
     -- what begins so has a span of the bytes in front, where that doesn't pass them
     front_within : length front ≤ m → front ≡ take (length front) bytes
     front_within short =
@@ -38,8 +36,8 @@ module _ (span : Span) (bytes : List ℕ) (end : ℕ) (ends : SpanEnds span byte
     front_past : m < length front → 0 < m → IsSpan span (take m bytes)
     front_past long some =
         let same : take m bytes ≡ take m front =
-            sym (take_at (take m bytes) x m (length-take-le m bytes le))
-            ∙ (ap (λ (l : List ℕ). take m l) eq ∙ take-append-le m front more (omega arith)) in
+        sym (take_at (take m bytes) x m (length-take-le m bytes le))
+        ∙ (ap (λ (l : List ℕ). take m l) eq ∙ take-append-le m front more (omega arith)) in
         subst (IsSpan span) (sym same)
         (shorter_span span (take m front) (drop m front) (omega (arith, length-take-le m front (omega arith)))
         (subst (IsSpan span) (sym (take-append-drop m front)) is))
@@ -48,17 +46,17 @@ module _ (span : Span) (bytes : List ℕ) (end : ℕ) (ends : SpanEnds span byte
     front_not_short : Opens more → end ≤ m → length front < end → ⊥
     front_not_short opens in' short =
         let len : length (take m bytes) + length x ≡ length front + length more =
-            sym (length-append (take m bytes) x) ∙ (ap length eq ∙ length-append front more) in
+        sym (length-append (take m bytes) x) ∙ (ap length eq ∙ length-append front more) in
         let mine : get_or (take m bytes ++ x) (length front) 0 ≡ get_or bytes (length front) 0 =
-            get_or_append_left (take m bytes) x 0 (length front) (omega (arith, length-take-le m bytes le))
-            ∙ get_or-take m bytes (length front) 0 (omega arith) in
+        get_or_append_left (take m bytes) x 0 (length front) (omega (arith, length-take-le m bytes le))
+        ∙ get_or-take m bytes (length front) 0 (omega arith) in
         let zero_more : length front ≡ length front + 0 = omega arith in
         let theirs : get_or (front ++ more) (length front) 0 ≡ get_or more 0 0 =
-            ap (λ (k : ℕ). get_or (front ++ more) k 0) zero_more ∙ get_or-append-add front more 0 0 in
+        ap (λ (k : ℕ). get_or (front ++ more) k 0) zero_more ∙ get_or-append-add front more 0 0 in
         let space : get_or more 0 0 ≡ 0x20 = opens (omega (arith, length-take-le m bytes le)) in
         let clean : IsNoSpace (get_or (take end bytes) (length front) 0) =
-            All-get_or IsNoSpace (take end bytes) (length front) 0 (omega (arith, length-take-le end bytes ends.most))
-            (span_clean span (take end bytes) (ends.is (omega arith))) in
+        All-get_or IsNoSpace (take end bytes) (length front) 0 (omega (arith, length-take-le end bytes ends.most))
+        (span_clean span (take end bytes) (ends.is (omega arith))) in
         clean (get_or-take end bytes (length front) 0 short
         ∙ (sym mine ∙ (ap (λ (l : List ℕ). get_or l (length front) 0) eq ∙ (theirs ∙ space))))
 
@@ -72,7 +70,7 @@ module _ (span : Span) (bytes : List ℕ) (end : ℕ) (ends : SpanEnds span byte
             inr (long, omega (arith, not_more))
         by (inr short) =
             let not_more : end < length front → ⊥ = λ lt. ends.longest (length front) lt (omega arith)
-                (subst (IsSpan span) (front_within short) is) in
+            (subst (IsSpan span) (front_within short) is) in
             let not_less : length front < end → ⊥ = front_not_short opens in' in
             inl (omega (arith, not_more, not_less))
 
@@ -94,7 +92,6 @@ module _ (span : Span) (bytes : List ℕ) (end : ℕ) (ends : SpanEnds span byte
         ∙ (eq ∙ ap (λ (l : List ℕ). l ++ more) same))))
 
   module _ (IsText : List ℕ → Type 0) where
-
     pub reach_then : ((more : List ℕ) → IsText more → Opens more) → 0 < end → (n : ℕ) →
         IsLongestPrefix IsText (drop end bytes) n → IsLongestPrefix (Then (IsSpan span) IsText) bytes (end + n)
     reach_then opens some n reach = record {
@@ -105,13 +102,22 @@ module _ (span : Span) (bytes : List ℕ) (end : ℕ) (ends : SpanEnds span byte
       where
         minus : (end + n) - end ≡ n
         minus = omega arith
+
         begins : Begins IsText (take n (drop end bytes)) → Begins (Then (IsSpan span) IsText) (take (end + n) bytes)
         begins (x, is) =
             let cut : take (end + n) bytes ≡ take end bytes ++ take n (drop end bytes) =
-                take_more bytes end (end + n) (omega arith)
-                ∙ ap (λ (k : ℕ). take end bytes ++ take k (drop end bytes)) minus in
-            (x, (take end bytes, take n (drop end bytes) ++ x, ends.is some, is,
-            ap (λ (l : List ℕ). l ++ x) cut ∙ append_assoc (take end bytes) (take n (drop end bytes)) x))
+            take_more bytes end (end + n) (omega arith)
+            ∙ ap (λ (k : ℕ). take end bytes ++ take k (drop end bytes)) minus in (
+              x,
+              (
+                take end bytes,
+                take n (drop end bytes) ++ x,
+                ends.is some,
+                is,
+                ap (λ (l : List ℕ). l ++ x) cut ∙ append_assoc (take end bytes) (take n (drop end bytes)) x,
+              ),
+            )
+
         longest : (m : ℕ) → end + n < m → m ≤ length bytes → Begins (Then (IsSpan span) IsText) (take m bytes) → ⊥
         longest m lt le (x, (front, more, is, text, eq)) =
             by (front_ends m x front more le is eq (opens more text) some (omega arith))
@@ -132,6 +138,7 @@ module _ (span : Span) (bytes : List ℕ) (end : ℕ) (ends : SpanEnds span byte
           where
             all : take (length bytes) bytes ++ [] ≡ front ++ more
             all = append-nil (take (length bytes) bytes) ∙ (take_all (length bytes) bytes (omega arith) ∙ eq)
+
             by : ((length front ≡ end) ⊎ (length bytes < length front) × (length bytes ≡ end)) → IsText (drop end bytes)
             by (inl at) =
                 let more_is = behind_front (length bytes) [] front more (omega arith) is all at ends.most in
@@ -154,7 +161,7 @@ module _ (span : Span) (bytes : List ℕ) (end : ℕ) (ends : SpanEnds span byte
     not_whole_none none (front, more, is, text, eq) =
         let len : length bytes ≡ length front + length more = ap length eq ∙ length-append front more in
         let all : take (length bytes) bytes ++ [] ≡ front ++ more =
-            append-nil (take (length bytes) bytes) ∙ (take_all (length bytes) bytes (omega arith) ∙ eq) in
+        append-nil (take (length bytes) bytes) ∙ (take_all (length bytes) bytes (omega arith) ∙ eq) in
         none_begins (length bytes) [] front more (omega arith) is all none (omega (arith, span_some span front is))
 
   -- a span alone
@@ -177,9 +184,10 @@ module _ (span : Span) (bytes : List ℕ) (end : ℕ) (ends : SpanEnds span byte
     where
       there : ((0 < end) × (end ≡ length bytes)) → IsSpan span bytes
       there h = subst (IsSpan span) (take_all end bytes (omega (arith, h.1))) (ends.is h.0)
+
       back : IsSpan span bytes → (0 < end) × (end ≡ length bytes)
       back is =
           let some : 0 < length bytes = span_some span bytes is in
           let not_less : end < length bytes → ⊥ = λ lt. ends.longest (length bytes) lt (omega arith)
-              (subst (IsSpan span) (sym (take_all (length bytes) bytes (omega arith))) is) in
+          (subst (IsSpan span) (sym (take_all (length bytes) bytes (omega arith))) is) in
           (omega (arith, not_less, ends.most), omega (arith, not_less, ends.most))

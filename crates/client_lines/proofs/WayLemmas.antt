@@ -36,9 +36,10 @@ pub goes_behind : (IsText : List ℕ → Type 0) (head rest line : List ℕ) (in
 goes_behind IsText head rest line inner way is goes count whole =
     subst (λ (l : List ℕ). Goes (Behind head IsText) l way) (sym is)
     (goes_by (Behind head IsText) (head ++ rest) way (length head + inner.count)
-    (reach_behind IsText head rest inner.count goes.reach) count
-    ((λ so. (whole_behind IsText head rest).0 (goes.whole.0 (sym whole ∙ so))),
-    λ text. whole ∙ goes.whole.1 ((whole_behind IsText head rest).1 text)))
+    (reach_behind IsText head rest inner.count goes.reach) count (
+      (λ so. (whole_behind IsText head rest).0 (goes.whole.0 (sym whole ∙ so))),
+      λ text. whole ∙ goes.whole.1 ((whole_behind IsText head rest).1 text),
+    ))
 
 -- behind a span
 pub goes_then : (span : Span) (IsText : List ℕ → Type 0) (bytes : List ℕ) (end : ℕ) (inner way : Way) →
@@ -47,9 +48,10 @@ pub goes_then : (span : Span) (IsText : List ℕ → Type 0) (bytes : List ℕ) 
     Goes (Then (IsSpan span) IsText) bytes way
 goes_then span IsText bytes end inner way ends opens some goes count whole =
     goes_by (Then (IsSpan span) IsText) bytes way (end + inner.count)
-    (reach_then span bytes end ends IsText opens some inner.count goes.reach) count
-    ((λ so. (whole_then span bytes end ends IsText opens some).0 (goes.whole.0 (sym whole ∙ so))),
-    λ text. whole ∙ goes.whole.1 ((whole_then span bytes end ends IsText opens some).1 text))
+    (reach_then span bytes end ends IsText opens some inner.count goes.reach) count (
+      (λ so. (whole_then span bytes end ends IsText opens some).0 (goes.whole.0 (sym whole ∙ so))),
+      λ text. whole ∙ goes.whole.1 ((whole_then span bytes end ends IsText opens some).1 text),
+    )
 
 pub goes_none : (span : Span) (IsText : List ℕ → Type 0) (bytes : List ℕ) (end : ℕ) (way : Way) →
     SpanEnds span bytes end → end ≡ 0 → (text : List ℕ) → IsText text → way.count ≡ 0 → way.whole ≡ false →
@@ -91,9 +93,10 @@ goes_nothing bytes way count whole =
 pub goes_alone : (span : Span) (bytes : List ℕ) (end : ℕ) (way : Way) → SpanEnds span bytes end → way.count ≡ end →
     (IsTrue way.whole ↔ ((0 < end) × (end ≡ length bytes))) → Goes (IsLast (last.Whole span)) bytes way
 goes_alone span bytes end way ends count whole =
-    goes_by (IsSpan span) bytes way end (reach_alone span bytes end ends) count
-    ((λ so. (whole_alone span bytes end ends).0 (whole.0 so)),
-    λ is. whole.1 ((whole_alone span bytes end ends).1 is))
+    goes_by (IsSpan span) bytes way end (reach_alone span bytes end ends) count (
+      (λ so. (whole_alone span bytes end ends).0 (whole.0 so)),
+      λ is. whole.1 ((whole_alone span bytes end ends).1 is),
+    )
 
 pub goes_rest : (bytes : List ℕ) (way : Way) → way.count ≡ length bytes → way.whole ≡ true →
     Goes (IsLast last.Rest) bytes way
@@ -146,8 +149,6 @@ goes_nowhere line way count whole = record {
 
 module _ (A B : List ℕ → Type 0) (line : List ℕ) (a b way : Way) (ga : GoesAtMost A line a) (gb : GoesAtMost B line b)
     (count : way.count ≡ max a.count b.count) (whole : way.whole ≡ (a.whole || b.whole)) where
-
-
   or_there : (p q : Bool) → IsTrue (p || q) → IsTrue p ⊎ IsTrue q
   or_there true q so = inl refl
   or_there false q so = inr so

@@ -60,10 +60,13 @@ fn put(alloc: Global, uri: &str, root: Node) -> Result<Command, LineRefusal>
 {
     let uri = Text::from_str(alloc, uri)?;
     match Document::new(alloc, uri, Texts::new(alloc), root) {
-        Ok(document) => commit(alloc, Op::Put {
-            document,
-            expect: None,
-        }),
+        Ok(document) => commit(
+            alloc,
+            Op::Put {
+                document,
+                expect: None,
+            },
+        ),
         Err(DocRefusal::Memory) => Err(LineRefusal::Memory),
         // The tree and the URI keep the other rules.
         Err(_) => Err(TOO_LARGE),

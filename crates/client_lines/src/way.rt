@@ -19,7 +19,10 @@ impl Way {
         ensures count { result.count ≡ count }
         ensures whole { result.whole ≡ false }
     {
-        Way { count, whole: false }
+        Way {
+            count,
+            whole: false,
+        }
     }
 
     // So many bytes further.
@@ -28,7 +31,10 @@ impl Way {
         ensures count { result.count ≡ count + self.count }
         ensures whole { result.whole ≡ self.whole }
     {
-        Way { count: count + self.count, whole: self.whole }
+        Way {
+            count: count + self.count,
+            whole: self.whole,
+        }
     }
 
     // Along one row or another.
@@ -96,13 +102,19 @@ fn along_last(last: Last, bytes: &[u8]) -> Way
     ensures { Goes (IsLast last) bytes.now result }
 {
     match last {
-        Last::Nothing => Way { count: 0, whole: bytes.is_empty() },
+        Last::Nothing => Way {
+            count: 0,
+            whole: bytes.is_empty(),
+        },
         Last::Whole(span) => {
             let count = span.end(bytes);
             let whole = is_all(count, bytes);
             Way { count, whole }
         }
-        Last::Rest => Way { count: bytes.len(), whole: true },
+        Last::Rest => Way {
+            count: bytes.len(),
+            whole: true,
+        },
     }
 }
 

@@ -19,10 +19,10 @@ returns c =
     let e = c.common_len-same.ensures in
     let at : c.common_len-same.result ≡ length row.head.now = omega (arith, e.within, c.if-same-row.false) in
     let head : take c.common_len-same.result c.args.line.now ≡ row.head.now =
-        e.same ∙ take_all c.common_len-same.result row.head.now (omega arith) in
+    e.same ∙ take_all c.common_len-same.result row.head.now (omega arith) in
     let rest = drop c.common_len-same.result c.args.line.now in
     let is : c.args.line.now ≡ row.head.now ++ rest =
-        sym (take-append-drop c.common_len-same.result c.args.line.now) ∙ ap (λ (l : List ℕ). l ++ rest) head in
+    sym (take-append-drop c.common_len-same.result c.args.line.now) ∙ ap (λ (l : List ℕ). l ++ rest) head in
     goes_behind (IsTail row.middle row.last) row.head.now rest c.args.line.now c.along_tail.result c.after.result is
     (subst (λ (l : List ℕ). Goes (IsTail row.middle row.last) l c.along_tail.result)
     (take_rest c.args.line.now c.common_len-same.result) c.along_tail.ensures)
