@@ -6,13 +6,14 @@ use Rattle.client_run.specs.Sessions.{Relation, AnswersLine}
 use Rattle.transcript.specs.Commands.{Asks}
 use Rattle.transcript.specs.Forms.{Form, HasForm}
 use Rattle.transcript.specs.Forms as form
-use Rattle.transcript.specs.Refusals.{IsRefused}
+use Rattle.transcript.specs.Refusals.{ComesLater, IsRefused}
 use Rattle.transcript.specs.declared.command.Command.{Command}
 use Rattle.transcript.specs.declared.command.Command.TheVariants as command
 use Rattle.transcript.specs.declared.command.Command.TheVariants.{Quit}
 use Rattle.transcript.specs.declared.command.When.TheVariants.{Front, At, Pinned}
 use Rattle.transcript.specs.Texts.{text_of}
 use Rattle.transcript.specs.declared.reply.BadKind.{BadKind}
+use Rattle.transcript.specs.declared.reply.Reply.{Reply}
 use Rattle.transcript.specs.declared.reply.Reply.TheVariants as reply
 use Rattle.transcript.specs.declared.session_end.SessionEnd.{SessionEnd}
 use Rattle.transcript.specs.declared.session_end.SessionEnd.TheVariants as end
@@ -55,6 +56,17 @@ asks_nothing command.Revive never = absurd never
 asks_nothing command.Quit is = absurd (cc)
 
 module _ {S : Type 0} (answers : Relation S) (old : S) where
+  -- a line that was read as a command is answered by the service
+  pub says_answer : (new : S) (line : List ℕ) (asked : Command) (said : Reply) → Asks line asked → asked ≢ Quit
+      → answers old asked said new → AnswersLine answers old line (Some said) new
+  says_answer new [] asked said is differs step = absurd (asks_nothing asked is)
+  says_answer new (b ∷ line) asked said is differs step = inl (asked, is, differs, step)
+
+  -- a line of a form that isn't answered yet is answered so
+  pub says_later : (line : List ℕ) → ComesLater line → AnswersLine answers old line (Some reply.Later) old
+  says_later [] (f, has, is) = absurd (no_form f has)
+  says_later (b ∷ line) later = inr (inr (inl (inr (later, refl), refl)))
+
   -- a refused line is answered with its fault
   pub says_bad : (line : List ℕ) (kind : BadKind) (place : ℕ) → line ≢ [] → IsRefused line kind place
       → AnswersLine answers old line (Some (reply.Bad kind place)) old
