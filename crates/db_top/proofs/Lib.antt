@@ -3,7 +3,7 @@ pub mod Attending
 pub mod Checked
 pub mod Keeping
 pub mod Lending
-pub mod Lines
+pub mod LineTexts
 pub mod Made
 pub mod Used
 pub mod Widening

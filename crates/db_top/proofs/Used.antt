@@ -1,5 +1,5 @@
 -- Words that fit don't end in `usage`.
-use Rattle.std.proofs.Common.{ℕ, ◌≢◌, inl, inr, List, Option, sym, ◌∙◌}
+use Rattle.std.proofs.Common.{ℕ, ◌≡◌, ◌≢◌, inl, inr, List, Option, sym, ◌∙◌}
 use Rattle.disk_model.specs.Worlds.{Handed}
 use Rattle.disk_model.specs.declared.disk.Disk
 use Rattle.disk_model.specs.declared.streams.Sink

@@ -17,7 +17,6 @@ use itoa::Buffer;
 pub(crate) type Line = ArrayString<192>;
 
 // What a snapshot shows.
-#[tactic(auto, using(crate::proofs::Lines::summed))]
 pub(crate) fn summary(seen: Snapshot<'_>) -> Line
     ensures { let view = view_of seen.entry in
         result.bytes ≡ summary_text view.front view.merge (len view.documents) }
@@ -31,7 +30,7 @@ pub(crate) fn summary(seen: Snapshot<'_>) -> Line
 }
 
 // Where a file is damaged.
-#[tactic(auto, using(crate::proofs::Lines::damaged))]
+#[tactic(auto, using(crate::proofs::LineTexts::damaged))]
 pub(crate) fn damage(file: FileName, place: u64) -> Line
     ensures { result.bytes ≡ text_of [] (Damaged file place) }
 {

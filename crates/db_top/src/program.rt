@@ -14,7 +14,6 @@ use std::alloc::Global;
 
 /// All that the program does: `init` makes an empty database in a directory, with the settings that its options give;
 /// `run` serves the client without a name with the one that is there; `check` says what that one holds.
-#[tactic(auto, using(crate::proofs::Asking::short_names))]
 pub fn run<R, W: World>(rt: &R, alloc: Global, words: &[String], world: &mut W) -> Status
     requires { IsIdle W.Disk.Disk W.Yard.Yard W.World world.old }
     ensures run { IsRun W.Disk.Disk W.Yard.Yard W.Source.Source W.Sink.Sink W.World

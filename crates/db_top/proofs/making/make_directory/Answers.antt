@@ -11,7 +11,7 @@ returns-in-Ok-put_store-clause-makes g c =
     record {
       makes = inl (lends_store g.W.Disk.Disk g.W.Yard.Yard g.W.Source.Source g.W.Sink.Sink g.W.World
           c.args.directory.now c.args.world.now c.take_store.new.self c.take_store.new.self c.put_store.new.self
-          c.in-Ok.store c.requires
+          c.in-Ok.store c.requires.idle
           (record {
             out = took.out;
             named = took.directory;
@@ -32,7 +32,7 @@ returns-in-Err-clause-makes g c =
     rw c.lost.ensures (record {
       makes = inl (loses_store g.W.Disk.Disk g.W.Yard.Yard g.W.Source.Source g.W.Sink.Sink g.W.World
           c.args.directory.now c.args.world.now c.take_store.new.self c.take_store.new.self c.put_store.new.self
-          c.in-Ok.store c.requires
+          c.in-Ok.store c.requires.idle
           (record {
             out = took.out;
             named = took.directory;

@@ -1,5 +1,6 @@
 use Rattle.std.proofs.Common.{[], ◌≢◌, ◌∙◌, ℕ, List, inl, inr, refl, subst, arith}
 use Rattle.command_words.specs.Asked.{asked_settings}
+use Rattle.db_top.proofs.Asking.{short_names}
 use Rattle.db_top.proofs.Used.{checks_in_used, makes_in_used, poor_used, reports_used, serves_in_used}
 use Rattle.doc_meaning.specs.History.{settings_of}
 use Rattle.db_top.specs.Runs as runs
@@ -8,10 +9,15 @@ use Rattle.db_top.specs.Statuses.{text_of}
 use Rattle.db_top.specs.declared.status.Status.TheVariants as status
 use Rattle.db_top.proofs.program.run.Goals as goal
 
+pub make_asked-status-requires-clause-names : goal.make_asked-status-requires-clause-names
+make_asked-status-requires-clause-names g c lives outlived =
+    let asks = rw c.in-Some-Init.field-0-is at c.in-Some-Init.ensures in
+    short_names (asked_settings c.in-Some-Init.init).indexes asks.settle.names
+
 pub returns-in-Some-Init-clause-run : goal.returns-in-Some-Init-clause-run
 returns-in-Some-Init-clause-run g c =
     let init = c.in-Some-Init.init in
-    let asks = c.in-Some-Init.ensures in
+    let asks = rw c.in-Some-Init.field-0-is at c.in-Some-Init.ensures in
     let m = c.make_asked-status in
     elim m.ensures.makes [
       | inl made ↦ record {
@@ -41,7 +47,7 @@ returns-in-Some-Init-clause-run g c =
 pub returns-in-Some-Init-clause-usage : goal.returns-in-Some-Init-clause-usage
 returns-in-Some-Init-clause-usage g c =
     let init = c.in-Some-Init.init in
-    let asks = c.in-Some-Init.ensures in
+    let asks = rw c.in-Some-Init.field-0-is at c.in-Some-Init.ensures in
     let m = c.make_asked-status in
     let used : m.result ≢ status.Usage = elim m.ensures.makes [
       | inl made ↦ makes_in_used g.W.Disk.Disk g.W.Yard.Yard g.W.Source.Source g.W.Sink.Sink g.W.World
