@@ -1,6 +1,6 @@
 // How a script ends, beside how it is to end.
 use crate::directory::{Logs, NAMES, blank, copied};
-use crate::running::{Ended, fresh, logs_behind, ran_script, told};
+use crate::running::{Ended, calls_before, fresh, logs_behind, ran_script, told};
 use crate::script::{Begin, Log, Script};
 use crate::stopping::swept;
 use std::alloc::{AllocError, Global};
@@ -79,7 +79,8 @@ pub fn judged(
     before: &Logs,
 ) -> Result<(Logs, Option<String>), AllocError> {
     let logs = beginning(alloc, script, before)?;
-    let ended = ran_script(alloc, &logs, script, script.faults)?;
+    let opening = calls_before(alloc, &logs, script)?;
+    let ended = ran_script(alloc, &logs, script, script.faults, opening)?;
     let behind = logs_behind(alloc, &ended, script.landed)?;
     let mut found = difference(alloc, script, &ended, &behind)?;
     if let Some(step) = script.sweep {

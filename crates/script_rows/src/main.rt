@@ -1,7 +1,8 @@
-//! Runs the scripts of standard input, each a paragraph, over a directory in memory, and prints those that end otherwise.
+//! Runs the scripts of standard input, each a paragraph, over a directory in memory, and prints those that end
+//! otherwise.
 //!
-//! The first line of a script says where it begins: `fresh` with an empty database, `blank` with no database, or `again`
-//! with what the script before left. Behind that word stands its name. The other lines are in `script.rt`.
+//! The first line of a script says where it begins: `fresh` with an empty database, `blank` with no database, or
+//! `again` with what the script before left. Behind that word stands its name. The other lines are in `script.rt`.
 #![tactic(auto)]
 
 mod cells;

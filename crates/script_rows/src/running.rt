@@ -103,26 +103,31 @@ pub fn opening(alloc: Global, logs: &Logs) -> Result<u64, AllocError> {
     Ok(ran(alloc, logs, "/run/d/", b"", 1, no_faults())?.calls)
 }
 
-/// What the script asks, over these logs. Its device calls are counted behind those of a run that is asked nothing.
+/// How many device calls go before those at which a fault of a script is to come: those of the opening.
+pub fn calls_before(alloc: Global, logs: &Logs, script: &Script) -> Result<u64, AllocError> {
+    let is_counted = script.faults.device.is_some() || script.faults.stop.is_some();
+    if is_counted && script.words.is_none() {
+        opening(alloc, logs)
+    } else {
+        Ok(0)
+    }
+}
+
+/// What the script asks, over these logs. The device calls of its faults are counted behind so many others.
 pub fn ran_script(
     alloc: Global,
     logs: &Logs,
     script: &Script,
     faults: Faults,
+    calls_before: u64,
 ) -> Result<Ended, AllocError> {
     let words = match &script.words {
         Some(words) => words.as_str(),
         None => "/run/d/",
     };
-    let is_counted = faults.device.is_some() || faults.stop.is_some();
-    let opening = if is_counted && script.words.is_none() {
-        opening(alloc, logs)?
-    } else {
-        0
-    };
     let counted = Faults {
-        device: behind(opening, faults.device),
-        stop: behind(opening, faults.stop),
+        device: behind(calls_before, faults.device),
+        stop: behind(calls_before, faults.stop),
         ..faults
     };
     ran(alloc, logs, words, &script.input, script.piece, counted)

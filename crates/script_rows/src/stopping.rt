@@ -22,6 +22,14 @@ fn first(alloc: Global, input: &[u8], count: usize) -> Result<Vec<u8>, AllocErro
     Ok(lines)
 }
 
+/// How many lines these are.
+fn lines_of(input: &[u8]) -> usize {
+    input.iter().filter(|byte| **byte == b'\n').count()
+}
+
+/// What a question is answered, in turn.
+type Answers = Vec<Vec<u8>>;
+
 /// What the question of a script is answered behind its first so many lines.
 fn wanted(
     alloc: Global,
@@ -41,10 +49,28 @@ fn wanted(
     Ok(answer)
 }
 
+/// What the question of a script is answered behind its first lines, none, one, two and so on up to all.
+fn all_wanted(alloc: Global, script: &Script, logs: &Logs) -> Result<Answers, AllocError> {
+    let mut answers = Vec::new(alloc);
+    for count in 0..=lines_of(&script.input) {
+        answers.push(wanted(alloc, script, logs, count)?)?;
+    }
+    Ok(answers)
+}
+
 /// What the question is answered over these logs.
 fn answer(alloc: Global, script: &Script, logs: &Logs) -> Result<Vec<u8>, AllocError> {
     let ended = ran(alloc, logs, "/run/d/", &script.question, 4096, no_faults())?;
     told(&ended).to_vec(alloc)
+}
+
+/// Whether an answer is the one behind so many lines, or behind one more.
+fn is_answer(answers: &Answers, count: usize, found: &[u8]) -> bool {
+    answers
+        .iter()
+        .skip(count)
+        .take(2)
+        .any(|wanted| wanted.as_slice() == found)
 }
 
 /// More images than a stop leaves in any script.
@@ -55,13 +81,11 @@ const MOST: u64 = 1_000;
 fn shows(
     alloc: Global,
     script: &Script,
-    logs: &Logs,
+    answers: &Answers,
     ended: &Ended,
     step: u64,
 ) -> Result<bool, AllocError> {
     let count = acknowledged(told(ended));
-    let old = wanted(alloc, script, logs, count)?;
-    let new = wanted(alloc, script, logs, count.saturating_add(1))?;
     let mut before: Logs = Vec::new(alloc);
     for place in 0..MOST {
         let image = logs_behind(alloc, ended, place.saturating_mul(step))?;
@@ -69,7 +93,7 @@ fn shows(
             return Ok(true);
         }
         let found = answer(alloc, script, &image)?;
-        if found != old && found != new {
+        if !is_answer(answers, count, &found) {
             return Ok(false);
         }
         before = image;
@@ -81,14 +105,15 @@ fn shows(
 pub fn swept(alloc: Global, script: &Script, logs: &Logs, step: u64) -> Result<String, AllocError> {
     let mut out = String::new(alloc);
     let opening = opening(alloc, logs)?;
-    let all = ran_script(alloc, logs, script, no_faults())?.calls;
+    let answers = all_wanted(alloc, script, logs)?;
+    let all = ran_script(alloc, logs, script, no_faults(), 0)?.calls;
     for stop in 0..all.saturating_sub(opening) {
         let faults = Faults {
             stop: Some(stop),
             ..no_faults()
         };
-        let ended = ran_script(alloc, logs, script, faults)?;
-        if !shows(alloc, script, logs, &ended, step)? {
+        let ended = ran_script(alloc, logs, script, faults, opening)?;
+        if !shows(alloc, script, &answers, &ended, step)? {
             write!(out, "  stopped at {stop}\n")?;
         }
     }

@@ -5,3 +5,5 @@
 mod documents;
 #[cfg(test)]
 mod lines;
+#[cfg(test)]
+mod queries;

@@ -1,3 +1,3 @@
-// Lines near the three forms, and the text of each reply.
-mod reading;
+// A line that is longer than those of a session, and the text of each reply that no session gives yet.
+mod sizes;
 mod texts;

@@ -35,9 +35,9 @@ fn make_and_serve_both(rt: &impl Abort, alloc: Global, world: &mut MemoryWorld) 
     ensures { IsIdle ⟦<MemoryDisk as Disk>⟧ ⟦<MemoryYard as Yard>⟧ ⟦<MemoryWorld as World>⟧ world.new }
 {
     check_done(rt, alloc, &["init", "d"], world)?;
-    check_done(rt, alloc, &["init", "e f"], world)?;
+    check_done(rt, alloc, &["init", "--", "-e f"], world)?;
     check_done(rt, alloc, &["run", "d"], world)?;
-    check_done(rt, alloc, &["run", "e f"], world)?;
+    check_done(rt, alloc, &["run", "--", "-e f"], world)?;
     check_done(rt, alloc, &["run", "d"], world)
 }
 

@@ -1,12 +1,12 @@
-// The text of each reply.
+// The text of each reply that no session gives yet.
 ghost use Rattle.std.specs.Prelude.{None};
 
 use client_lines::{Outbox, write_reply};
 use disk_model::{Failed, FileName, Sink};
-use doc_model::{Kind, Text, Texts};
+use doc_model::{Text, Texts};
 use std::alloc::Global;
 use std::test::Fail;
-use transcript::{BadKind, Reply};
+use transcript::Reply;
 
 /// Keeps what is written. Want of memory is a fault.
 #[derive(Drop)]
@@ -65,31 +65,7 @@ fn written(alloc: Global, replies: &[Reply]) -> Result<Vec<u8>, Fail> {
     Ok(sink.bytes)
 }
 
-#[test]
-fn times_and_ends_have_their_texts(rt: HostRuntime) -> Result<(), Fail> {
-    let replies = [
-        Reply::Ok(7),
-        Reply::Wished,
-        Reply::NoDoc { at: 5, front: 7 },
-        Reply::Estimate {
-            count: 2,
-            at: 5,
-            front: 7,
-        },
-        Reply::Stamp { front: 7, merge: 4 },
-        Reply::Bye,
-    ];
-    let want = "ok 7
-ok wish
-none at 5 of 7
-estimate 2 at 5 of 7
-stamp 7 merge 4
-bye
-";
-    assert_eq!(rt; written(rt.alloc(), &replies)?.as_slice(), want.as_bytes());
-    Ok(())
-}
-
+// A document of the past.
 fn doc(alloc: Global) -> Result<Reply, Fail> {
     Ok(Reply::Doc {
         created: 3,
@@ -113,51 +89,27 @@ fn found(alloc: Global) -> Result<Reply, Fail> {
 }
 
 #[test]
-fn what_is_found_has_its_text(rt: HostRuntime) -> Result<(), Fail> {
+fn what_is_found_in_the_past_has_its_text(rt: HostRuntime) -> Result<(), Fail> {
     let alloc = rt.alloc();
-    let replies = [doc(alloc)?, found(alloc)?];
+    let none = Reply::NoDoc { at: 5, front: 7 };
+    let estimate = Reply::Estimate {
+        count: 2,
+        at: 5,
+        front: 7,
+    };
+    let replies = [doc(alloc)?, none, found(alloc)?, estimate];
     let want = "doc 3 at 5 of 7
 [\"news\"]
 {\"t\":\"fox\"}
 end
+none at 5 of 7
 found 2 at 5 of 7
 /a.json
 /b.json
 end
+estimate 2 at 5 of 7
 ";
     assert_eq!(rt; written(alloc, &replies)?.as_slice(), want.as_bytes());
-    Ok(())
-}
-
-#[test]
-fn refused_lines_have_their_texts(rt: HostRuntime) -> Result<(), Fail> {
-    let name = Text::from_str(rt.alloc(), "\"age\"")?;
-    let replies = [
-        Reply::Long,
-        Reply::Bad {
-            kind: BadKind::Syntax,
-            place: 12,
-        },
-        Reply::NoPin,
-        Reply::Deep,
-        Reply::Many,
-        Reply::Directory,
-        Reply::Near,
-        Reply::NoRange {
-            name,
-            kind: Kind::Decimal,
-        },
-    ];
-    let want = "bad long 4194304
-bad syntax 12
-nopin
-bad deep 32
-bad many 10000
-bad directory
-bad near
-norange \"age\" decimal
-";
-    assert_eq!(rt; written(rt.alloc(), &replies)?.as_slice(), want.as_bytes());
     Ok(())
 }
 
@@ -167,7 +119,6 @@ fn refused_times_and_uris_have_their_texts(rt: HostRuntime) -> Result<(), Fail> 
     let twice = Text::from_str(alloc, "/a.json")?;
     let uri = Text::from_str(alloc, "/a.json")?;
     let replies = [
-        Reply::Old { asked: 1, merge: 4 },
         Reply::New { asked: 9, front: 7 },
         Reply::Back { t: 1, merge: 4 },
         Reply::Ahead { t: 9, front: 7 },
@@ -178,8 +129,7 @@ fn refused_times_and_uris_have_their_texts(rt: HostRuntime) -> Result<(), Fail> 
             front: 7,
         },
     ];
-    let want = "old 1 4
-new 9 7
+    let want = "new 9 7
 back 1 4
 ahead 9 7
 twice /a.json
@@ -190,26 +140,22 @@ conflict /a.json 6 7
 }
 
 #[test]
-fn faults_have_their_texts(rt: HostRuntime) -> Result<(), Fail> {
+fn wishes_and_faults_have_their_texts(rt: HostRuntime) -> Result<(), Fail> {
     let damaged = |file: FileName| Reply::Damaged { file, place: 20 };
     let replies = [
-        Reply::Spent { front: u64::MAX },
-        Reply::Down,
-        Reply::Fault,
+        Reply::Wished,
+        Reply::NoPin,
         damaged(FileName::Log(1)),
         damaged(FileName::Log(3)),
         damaged(FileName::Sealed(12)),
         Reply::Memory,
-        Reply::Later,
     ];
-    let want = "spent 18446744073709551615
-down
-fault
+    let want = "ok wish
+nopin
 damaged journal-1 20
 damaged root-1 20
 damaged file-12 20
 memory
-later
 ";
     assert_eq!(rt; written(rt.alloc(), &replies)?.as_slice(), want.as_bytes());
     Ok(())
