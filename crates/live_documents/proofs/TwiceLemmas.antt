@@ -1,6 +1,6 @@
 -- The URIs that were met so far, and those that are named twice.
-use Rattle.std.proofs.Common.{◌≡◌, ℕ, ◌+◌, ◌<◌, Bool, true, false, cond, not, ◌||◌, List, [], ◌∷◌, ◌++◌, map}
-use Rattle.std.proofs.Common.{length, take, drop, get_or, Some, bytes_eq, refl, sym, ap, ◌∙◌}
+use Rattle.std.proofs.Common.{◌≡◌, ℕ, ◌+◌, ◌<◌, ◌≤◌, Bool, true, false, cond, not, ◌||◌, List, [], ◌∷◌, ◌++◌, map, arith}
+use Rattle.std.proofs.Common.{length, take, drop, get_or, Some, None, IsTrue, bytes_eq, refl, sym, ap, ◌∙◌}
 use Rattle.std.proofs.lemmas.Bool.{not-false, not-true}
 use Rattle.std.proofs.lemmas.Cmp.{nat_list_eq_equiv}
 use Rattle.std.proofs.lemmas.List.{drop_more, map-append, take_more}
@@ -11,7 +11,7 @@ use Rattle.std.specs.BTreeSet.{BTreeSet, UpdatesBy, contains_by}
 use Rattle.std.specs.Cmp.Lexicographic.{slice_cmp}
 use Rattle.std.specs.Ordering.{nat_cmp}
 use Rattle.doc_model.specs.Operations.{uri_of}
-use Rattle.doc_model.specs.Tree.{is_among}
+use Rattle.doc_model.specs.Tree.{is_among, is_distinct}
 use Rattle.doc_model.specs.declared.op.Op.{Op}
 use Rattle.doc_meaning.specs.Replies.{first_twice}
 
@@ -61,3 +61,10 @@ module _ {added has among : Bool} (told : added ≡ not has) (known : has ≡ am
 
   pub was_new : added ≡ true → among ≡ false
   was_new is = not-true _ (sym (ap not known) ∙ sym told ∙ is)
+
+-- the names of one operation alone: none stands twice
+pub one_names_once : (ops : List Op) → 1 ≤ length ops → length ops < 2 →
+    (None ≡ first_twice [] (map uri_of ops)) × IsTrue (is_distinct (map uri_of ops))
+one_names_once [] some few = absurd (omega arith)
+one_names_once (op ∷ []) some few = (refl, refl)
+one_names_once (op ∷ next ∷ others) some few = absurd (omega arith)

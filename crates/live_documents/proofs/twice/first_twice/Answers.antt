@@ -1,11 +1,11 @@
-use Rattle.std.proofs.Common.{◌≡◌, true, false, ◌++◌, ◌∷◌, [], Some, map, take, ap, sym, ◌∙◌, arith}
+use Rattle.std.proofs.Common.{◌≡◌, true, false, ◌++◌, ◌∷◌, [], Some, None, IsTrue, map, take, ap, sym, subst, ◌∙◌, arith}
 use Rattle.std.proofs.lemmas.Bool.{cond-false, cond-true}
 use Rattle.std.proofs.lemmas.List.{drop_all}
 use Rattle.doc_model.specs.Operations.{uri_of}
-use Rattle.doc_model.specs.Tree.{is_among}
+use Rattle.doc_model.specs.Tree.{is_among, is_distinct}
 use Rattle.doc_meaning.proofs.DistinctLemmas.{distinct_from_none}
 use Rattle.doc_meaning.specs.Replies.{first_twice}
-use Rattle.live_documents.proofs.TwiceLemmas.{first_twice-more, named_more, one_more}
+use Rattle.live_documents.proofs.TwiceLemmas.{first_twice-more, named_more, one_more, one_names_once}
 use Rattle.live_documents.proofs.TwiceLemmas.{was_met, was_new}
 use Rattle.live_documents.proofs.twice.first_twice.Goals as goal
 
@@ -48,3 +48,13 @@ returns-clause-distinct c =
     (drop_all c.loop-op.op-index c.as_slice-op-items.result.now c.loop-op-test.false))
     ∙ c.loop-op.invariant.first
     ∙ ap (λ list. first_twice [] (map uri_of list)) c.as_slice-op-items.ensures.value)
+
+pub returns-in-len1-clause-first : goal.returns-in-len1-clause-first
+returns-in-len1-clause-first c =
+    subst (λ ops. None ≡ first_twice [] (map uri_of ops)) c.as_slice.ensures.value
+    (one_names_once c.as_slice.result.now c.in-len1.len_at_least c.in-len1.len_below).0
+
+pub returns-in-len1-clause-distinct : goal.returns-in-len1-clause-distinct
+returns-in-len1-clause-distinct c =
+    subst (λ ops. IsTrue (is_distinct (map uri_of ops))) c.as_slice.ensures.value
+    (one_names_once c.as_slice.result.now c.in-len1.len_at_least c.in-len1.len_below).1
