@@ -1,5 +1,5 @@
 -- What the words of `init` give, as settings.
-use Rattle.std.proofs.Common.{◌≡◌, ◌<◌, ◌^◌, ℕ, List, [], ◌∷◌, length, refl, IsTrue, ap, ◌∙◌, ◌&&◌, Bool}
+use Rattle.std.proofs.Common.{◌^◌, List, [], ◌∷◌, length, refl, IsTrue, ap, ◌∙◌, ◌&&◌, Bool}
 use Rattle.std.specs.Prelude.{All, nat_lt}
 use Rattle.std.specs.List.{list_all}
 use Rattle.std.proofs.lemmas.Bool.{lt-ltb}

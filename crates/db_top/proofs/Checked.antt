@@ -1,7 +1,8 @@
 -- A store that was opened and told, or not.
-use Rattle.std.proofs.Common.{◌≡◌, ◌≢◌, ◌≤◌, ℕ, List, [], IfSome, IsSome, Option, Some, None, inl, inr, refl, sym, ◌∙◌, ap, subst}
+use Rattle.std.proofs.Common.{◌≡◌, ◌≢◌, ◌≤◌, ℕ, List, IfSome, IsSome, Option, Some, None}
+use Rattle.std.proofs.Common.{inl, inr, refl, ◌∙◌, ap, subst}
 use Rattle.std.specs.FinMap.{len}
-use Rattle.db_top.specs.Checking.{Checks, Tells, summary_of, summary_text}
+use Rattle.db_top.specs.Checking.{Checks, summary_of, summary_text}
 use Rattle.db_top.specs.Statuses.{refused_as}
 use Rattle.db_top.specs.declared.status.Status.{Status}
 use Rattle.db_top.specs.declared.status.Status.TheVariants as status

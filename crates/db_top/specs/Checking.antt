@@ -1,5 +1,5 @@
 -- What `check` does with the store of a directory.
-use Rattle.std.specs.Prelude.{ℕ, ◌≡◌, ◌≢◌, ◌⊎◌, ◌≤◌, List, [], ◌∷◌, ◌++◌, IfSome, IsSome, codes}
+use Rattle.std.specs.Prelude.{ℕ, ◌≡◌, ◌≢◌, ◌⊎◌, ◌≤◌, List, [], ◌∷◌, IfSome, IsSome, codes}
 use Rattle.std.specs.FinMap.{len}
 use Rattle.std.specs.Fmt.{decimal}
 use Rattle.disk_model.specs.Causes.{Rose}

@@ -59,8 +59,8 @@ module _ {W D Y P I O F B : Type 0} (disk : Disk.Ghosts D) (yard : Yard.Ghosts Y
     pub makes : LendsStore (Makes disk settings) directory old new result ⊎ LendsNoStore old new result
     pub clients : world.clients new ≡ world.clients old
 
-  -- the store of a directory was handed out and opened or not, and it was put back; `done` is the text of what it holds.
-  -- Or the world failed. No client was handed out
+  -- the store of a directory was handed out and opened or not, and it was put back; `done` is the text of what it
+  -- holds. Or the world failed. No client was handed out
   pub record ChecksIn (done : List ℕ) (directory : List ℕ) (old new : W) (result : Status) : Type 0 where
     pub checks : LendsStore (Checks disk done) directory old new result ⊎ LendsNoStore old new result
     pub clients : world.clients new ≡ world.clients old

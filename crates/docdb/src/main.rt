@@ -10,9 +10,9 @@ use std::{env, io};
 
 /// The words that the program takes.
 const WORDS: &str =
-    "docdb: the words are 'init DIR', which makes a database, or 'run DIR', which serves it";
+    "docdb: the words are 'init DIR [--range NAME:TYPE].. [--save-at N] [--merge-at K]', 'run DIR' or 'check DIR'";
 
-/// The words behind the program's name. Where one isn't UTF-8 there are none, since neither fits.
+/// The words behind the program's name. Where one isn't UTF-8 there are none, since no command fits.
 fn words(rt: &HostRuntime, alloc: Global) -> Result<Vec<String>, AllocError> {
     match args(rt, alloc) {
         Ok(words) => Ok(words),

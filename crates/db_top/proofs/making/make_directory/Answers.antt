@@ -20,7 +20,8 @@ returns-in-Ok-put_store-clause-makes g c =
             others = took.others;
           })
           (record { stores = refl; directories = refl; stands = refl })
-          (Makes g.W.Disk.Disk (settings_of c.args.settings)) c.make-store.result.0 c.make-store.result.1 c.make-store.ensures
+          (Makes g.W.Disk.Disk (settings_of c.args.settings))
+          c.make-store.result.0 c.make-store.result.1 c.make-store.ensures
           (record { back = put.back; directories = put.directories; others = put.others }) put.stands);
       clients = cc;
     }
@@ -41,7 +42,8 @@ returns-in-Err-clause-makes g c =
             others = took.others;
           })
           (record { stores = refl; directories = refl; stands = refl })
-          (Makes g.W.Disk.Disk (settings_of c.args.settings)) c.make-store.result.0 c.make-store.result.1 c.make-store.ensures
+          (Makes g.W.Disk.Disk (settings_of c.args.settings))
+          c.make-store.result.0 c.make-store.result.1 c.make-store.ensures
           put.directories put.others put.back (rose_since (g.W.World.faults c.args.world.now)
           (g.W.World.faults c.take_store.new.self) (g.W.World.faults c.put_store.new.self) took.cause.later
           put.cause.failed));
