@@ -1,5 +1,6 @@
 """Kills docdb while a client puts, and looks at what is there when it is opened again; crash.sh runs it."""
 
+import contextlib
 import os
 import random
 import subprocess
@@ -20,6 +21,8 @@ def put_until_killed(directory, turn):
     the directory, else behind the first of them."""
     process = start(directory)
     killer = threading.Timer(random.uniform(0, LONGEST), process.kill)
+    guard = threading.Timer(60, process.kill)
+    guard.start()
     acknowledged = 0
     try:
         while True:
@@ -27,17 +30,26 @@ def put_until_killed(directory, turn):
                 killer.start()
             process.stdin.write(b'put /%d/%d.json {"t":"turn%d b"}\n' % (turn, acknowledged + 1, turn))
             process.stdin.flush()
-            if not process.stdout.readline().startswith(b"ok "):
+            reply = process.stdout.readline()
+            if not reply.endswith(b"\n"):
                 break
+            if not reply.startswith(b"ok "):
+                sys.exit("turn %d: a put was answered %r" % (turn, reply))
             acknowledged += 1
     except BrokenPipeError:
         pass
+    finally:
+        guard.cancel()
+        if killer.ident is None:
+            process.kill()
+        else:
+            killer.join()
+        process.wait()
+        with contextlib.suppress(BrokenPipeError):
+            process.stdin.close()
+        process.stdout.close()
     if killer.ident is None:
         sys.exit("turn %d: the first put wasn't acknowledged" % turn)
-    killer.join()
-    process.wait()
-    process.stdin.detach().close()
-    process.stdout.close()
     return acknowledged
 
 
