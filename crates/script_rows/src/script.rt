@@ -176,7 +176,10 @@ fn add_log(alloc: Global, logs: &mut Vec<Log>, cell: &str) -> Result<(), AllocEr
     let (name, digits) = cell.split_once(' ').unwrap_or((cell, ""));
     let mut bytes = Vec::new(alloc);
     let mut left = digits;
-    while let Some((byte, rest)) = byte_of(left) {
+    for _ in 0..digits.len() {
+        let Some((byte, rest)) = byte_of(left) else {
+            break;
+        };
         bytes.extend_from_slice(&[byte])?;
         left = rest;
     }
