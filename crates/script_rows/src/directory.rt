@@ -10,7 +10,7 @@ use std::alloc::{AllocError, Global};
 pub type Logs = Vec<Vec<u8>>;
 
 /// No log of a script is longer.
-const LONG: usize = 4_096;
+const LONG: usize = 65_536;
 
 /// The names of the logs, in their order.
 pub const NAMES: [&str; 4] = ["journal-0", "journal-1", "root-0", "root-1"];
