@@ -1,19 +1,10 @@
 -- What a line of a form asks, and how it is refused.
-use Rattle.std.proofs.Common.{◌≡◌, ◌≢◌, ℕ, ◌+◌, ◌-◌, ◌<◌, ◌≤◌, ◌^◌, inl, inr, List, [], ◌∷◌, length, Bool, true, false, not, if◌then◌else◌, Option, Some, None, Result, Ok, Err, refl, sym, ap, ◌∙◌, subst, length-append, codes, arith}
-use Rattle.std.proofs.lemmas.Bool.{false≢true, le-ltb, ltb-true}
-use Rattle.std.specs.Prelude.{IsTrue, nat_lt}
+use Rattle.std.proofs.Common.{◌≡◌, ◌≢◌, ℕ, ◌+◌, ◌-◌, inl, inr, List, [], length, true, false, Some, None, Result, Ok, Err, refl, sym, ap, ◌∙◌, subst, length-append, codes, arith}
+use Rattle.std.specs.Prelude.{IsTrue}
 use Rattle.cts_meaning.specs.Faults.{IsQueryFault}
-use Rattle.doc_model.specs.Documents.{document_of, document_size, IsRefused}
-use Rattle.doc_model.specs.Operations.{broken_ops_rule, op_size}
-use Rattle.doc_model.specs.Tree.{depth, has_distinct_names}
-use Rattle.doc_model.specs.Uri.{is_uri, is_collections}
+use Rattle.doc_model.specs.Uri.{is_uri}
 use Rattle.doc_model.specs.declared.node.Node.{Node}
-use Rattle.doc_model.specs.declared.op.Op.{Op}
-use Rattle.doc_model.specs.declared.op.Op.TheVariants.{Put, Remove}
-use Rattle.doc_model.specs.declared.refusal.DocRefusal.{DocRefusal}
-use Rattle.doc_model.specs.declared.refusal.DocRefusal.TheVariants as rule
-use Rattle.doc_model.specs.declared.refusal.OpsRefusal.{OpsRefusal}
-use Rattle.doc_model.specs.declared.refusal.OpsRefusal.TheVariants as ops_rule
+use Rattle.doc_model.specs.declared.op.Op.TheVariants.{Remove}
 use Rattle.json_text.specs.Faults.{IsRefusedText}
 use Rattle.json_text.specs.Grammar.{IsJson}
 use Rattle.json_text.specs.declared.bad.JsonBad.{JsonBad}
@@ -24,14 +15,13 @@ use Rattle.transcript.specs.Forms as form
 use Rattle.transcript.specs.Refusals.{is_answered, json_in, keeps_uri, last_place, uri_in}
 use Rattle.transcript.specs.Refusals as refused
 use Rattle.transcript.specs.declared.command.Command.{Command}
-use Rattle.transcript.specs.declared.command.Command.TheVariants as command
 use Rattle.transcript.specs.declared.command.When.TheVariants.{Front}
 use Rattle.transcript.specs.declared.reply.BadKind.TheVariants as bad
 use Rattle.client_lines.specs.Lines.{Reads}
 use Rattle.client_lines.specs.Readings.{IsBadJsonFrom, MakesCommit, MakesPut, ReadsCommand}
 use Rattle.client_lines.specs.declared.refusal.LineRefusal.{LineRefusal}
 use Rattle.client_lines.specs.declared.refusal.LineRefusal.TheVariants as refusal
-use Rattle.client_lines.proofs.FormLemmas.{get_not_quit, put_not_quit, remove_not_quit, search_not_quit}
+use Rattle.client_lines.proofs.FormLemmas.{put_not_quit, remove_not_quit, search_not_quit}
 
 -- ---- puts and removals
 

@@ -1,13 +1,13 @@
--- What stands behind the first words of a line.
-use Rattle.std.proofs.Common.{◌≡◌, ◌≢◌, ◌≤◌, ◌<◌, ◌+◌, ◌↔◌, ℕ, Bool, true, false, not, List, [], ◌∷◌, ◌++◌, length, get_or, refl, sym, ◌∙◌, ap, subst, codes, length-append, arith}
-use Rattle.std.proofs.lemmas.List.{append_cancel_left, get_or_at, get_or_default, nil_from_length}
+-- The bytes behind the first words of a line.
+use Rattle.std.proofs.Common.{◌≡◌, ◌≢◌, ◌<◌, ◌+◌, ◌↔◌, ℕ, Bool, true, false, not, List, [], ◌∷◌, ◌++◌, length, get_or, refl, sym, ◌∙◌, ap, subst, codes, length-append, arith}
+use Rattle.std.proofs.lemmas.List.{append_cancel_left, get_or_at, nil_from_length}
 use Rattle.std.proofs.lemmas.List.Elements.{All-nil, All-from_get_or}
 use Rattle.std.specs.Prelude.{All, IsTrue}
 use Rattle.transcript.specs.Forms.{Fits, IsWord}
 use Rattle.transcript.specs.Forms as form
 use Rattle.transcript.proofs.FormLemmas.{IsNoSpace, spaced, word_once}
 
--- what stands behind the head of a put
+-- the bytes behind the head of a put
 put_rest : (line rest uri json : List ℕ) → line ≡ codes "put " ++ rest → Fits line (form.put uri json) →
     rest ≡ uri ++ 0x20 ∷ json
 put_rest line rest uri json is fits =
@@ -53,7 +53,7 @@ word_told text false some there back = (
   λ word. refl,
 )
 
--- one text stands behind a head
+-- one text is behind a head
 pub no_word_behind : (line head text : List ℕ) (found : Bool) → line ≡ head ++ text → (IsWord text → found ≡ true) →
     found ≡ false → (word : List ℕ) → IsWord word → line ≡ head ++ word → ⊥
 no_word_behind line head text found is told none word own eq =

@@ -1,11 +1,11 @@
 -- The forms of a line as rows.
-use Rattle.std.proofs.Common.{◌≡◌, ◌<◌, ◌≤◌, ◌⊎◌, inl, inr, ℕ, List, [], ◌∷◌, ◌++◌, refl, sym, ◌∙◌, ap, codes, arith}
+use Rattle.std.proofs.Common.{◌≡◌, inl, inr, ℕ, List, [], ◌∷◌, ◌++◌, refl, sym, ◌∙◌, ap, codes, arith}
 use Rattle.std.specs.Fmt.{decimal}
 use Rattle.transcript.specs.Forms as form
-use Rattle.transcript.specs.declared.command.When.TheVariants.{Front, At, Pinned}
+use Rattle.transcript.specs.declared.command.When.TheVariants.{At, Pinned}
 use Rattle.transcript.proofs.FormLemmas.{spaced}
-use Rattle.client_lines.specs.LineForms.{IsLaterText, IsAnsweredText}
-use Rattle.client_lines.proofs.RowTexts.{IsOfThese, at_rows, pinned_rows, other_rows, answered_rows}
+use Rattle.client_lines.specs.LineForms.{IsLaterText}
+use Rattle.client_lines.proofs.RowTexts.{IsOfThese, at_rows, pinned_rows}
 
 -- a head, a word, a space and a last text
 spaced_line : (head digits word rest last more line : List ℕ) → line ≡ head ++ more → more ≡ digits ++ rest →

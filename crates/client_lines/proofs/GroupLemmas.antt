@@ -1,15 +1,15 @@
 -- Each form is of one of the groups.
-use Rattle.std.proofs.Common.{◌≡◌, ◌≤◌, ◌<◌, ◌⊎◌, inl, inr, ℕ, Bool, true, false, List, [], ◌++◌, length, take, max, refl, sym, ◌∙◌, subst, codes, arith}
+use Rattle.std.proofs.Common.{◌≡◌, ◌≤◌, ◌<◌, ◌⊎◌, inl, inr, ℕ, Bool, true, false, List, ◌++◌, take, max, refl, sym, ◌∙◌, subst, codes, arith}
 use Rattle.std.proofs.lemmas.Bool.{cases_lt}
 use Rattle.std.specs.Prelude.{IsTrue, ◌||◌}
-use Rattle.text_prefixes.specs.Prefixes.{Begins, IsLongestPrefix}
+use Rattle.text_prefixes.specs.Prefixes.{Begins}
 use Rattle.transcript.specs.Forms.{Form, Fits, IsFormText}
 use Rattle.transcript.specs.Forms as form
 use Rattle.transcript.specs.declared.command.When.TheVariants.{Front, At, Pinned}
 use Rattle.client_lines.specs.LineForms.{IsLaterText, IsAnsweredText, IsUnformed, LacksCommon}
-use Rattle.client_lines.specs.Rows.{GoesAtMost}
-use Rattle.client_lines.specs.declared.way.Way.{Way}
-use Rattle.client_lines.proofs.WayLemmas.{goes_or, goes_same}
+use Rattle.client_lines.specs.Rows.{MatchesSome}
+use Rattle.client_lines.specs.declared.prefix_match.PrefixMatch.{PrefixMatch}
+use Rattle.client_lines.proofs.PrefixMatchLemmas.{goes_or, goes_same}
 
 abbrev AtText : List ℕ → Type 0
 AtText = IsLaterText (λ n. n ≡ 3)
@@ -66,33 +66,33 @@ untrue : (b : Bool) → b ≡ false → IsTrue b → ⊥
 untrue b no' so = let h : true ≡ false = sym so ∙ no' in absurd cc
 
 -- a line that is of no group
-pub unformed : (line : List ℕ) (at pinned others answered fixed both way : Way) → GoesAtMost AtText line at →
-    GoesAtMost PinnedText line pinned → GoesAtMost OtherText line others → GoesAtMost IsAnsweredText line answered →
+pub unformed : (line : List ℕ) (at pinned others answered fixed both prefix_match : PrefixMatch) → MatchesSome AtText line at →
+    MatchesSome PinnedText line pinned → MatchesSome OtherText line others → MatchesSome IsAnsweredText line answered →
     fixed.count ≡ max at.count pinned.count → fixed.whole ≡ (at.whole || pinned.whole) →
     both.count ≡ max fixed.count others.count → both.whole ≡ (fixed.whole || others.whole) →
-    way.count ≡ max both.count answered.count → way.whole ≡ (both.whole || answered.whole) →
-    fixed.whole ≡ false → others.whole ≡ false → (IsAnsweredText line → ⊥) → IsUnformed line way.count
-unformed line at pinned others answered fixed both way ga gp go gn fc fw bc bw wc ww f o none =
+    prefix_match.count ≡ max both.count answered.count → prefix_match.whole ≡ (both.whole || answered.whole) →
+    fixed.whole ≡ false → others.whole ≡ false → (IsAnsweredText line → ⊥) → IsUnformed line prefix_match.count
+unformed line at pinned others answered fixed both prefix_match ga gp go gn fc fw bc bw wc ww f o none =
     let g1 = goes_or AtText PinnedText line at pinned fixed ga gp fc fw in
     let g2 = goes_or (λ l. AtText l ⊎ PinnedText l) OtherText line fixed others both g1 go bc bw in
-    let g3 = goes_or (λ l. (AtText l ⊎ PinnedText l) ⊎ OtherText l) IsAnsweredText line both answered way g2 gn wc ww in
-    let g = goes_same Grouped IsFormText line way formed grouped g3 in (
+    let g3 = goes_or (λ l. (AtText l ⊎ PinnedText l) ⊎ OtherText l) IsAnsweredText line both answered prefix_match g2 gn wc ww in
+    let g = goes_same Grouped IsFormText line prefix_match formed grouped g3 in (
       λ is. out g1 (grouped line is),
       record {
         within = g.within;
-        begins = begins g (cases_lt 0 way.count);
+        begins = begins g (cases_lt 0 prefix_match.count);
         longest = g.longest;
       },
     )
   where
-    out : GoesAtMost (λ l. AtText l ⊎ PinnedText l) line fixed → Grouped line → ⊥
+    out : MatchesSome (λ l. AtText l ⊎ PinnedText l) line fixed → Grouped line → ⊥
     out g1 (inl (inl is)) = untrue fixed.whole f (g1.whole.1 is)
     out g1 (inl (inr is)) = untrue others.whole o (go.whole.1 is)
     out g1 (inr is) = none is
 
-    begins : GoesAtMost IsFormText line way → ((0 < way.count) ⊎ (way.count ≤ 0)) →
-        Begins IsFormText (take way.count line)
+    begins : MatchesSome IsFormText line prefix_match → ((0 < prefix_match.count) ⊎ (prefix_match.count ≤ 0)) →
+        Begins IsFormText (take prefix_match.count line)
     begins g (inl some) = g.begins some
     begins g (inr zero') =
-        let at' : 0 ≡ way.count = omega arith in
+        let at' : 0 ≡ prefix_match.count = omega arith in
         subst (λ (k : ℕ). Begins IsFormText (take k line)) at' (codes "stamp", (form.stamp, (tt, refl)))

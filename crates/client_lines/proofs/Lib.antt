@@ -12,5 +12,5 @@ pub mod RowTexts
 pub mod SendingLemmas
 pub mod SpanLemmas
 pub mod ThenLemmas
-pub mod WayLemmas
+pub mod PrefixMatchLemmas
 pub mod Ways

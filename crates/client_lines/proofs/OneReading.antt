@@ -1,5 +1,5 @@
 -- A line is read in one way.
-use Rattle.std.proofs.Common.{◌≡◌, ◌≢◌, ℕ, ◌+◌, ◌<◌, ◌^◌, ◌⊎◌, inl, inr, List, [], ◌∷◌, length, Bool, true, false, Option, Some, None, Result, Ok, Err, refl, sym, ap, ◌∙◌, subst, arith}
+use Rattle.std.proofs.Common.{◌≡◌, ℕ, ◌+◌, ◌<◌, ◌^◌, List, [], length, Bool, true, false, Option, Some, None, Result, Ok, Err, refl, sym, ap, ◌∙◌, subst, arith}
 use Rattle.std.proofs.Math.Nat.{le_antisymm}
 use Rattle.std.proofs.lemmas.Bool.{false≢true, ltb-false}
 use Rattle.std.proofs.lemmas.Option.{some_pair_parts}
@@ -14,7 +14,6 @@ use Rattle.doc_model.specs.Documents.{document_of, document_size}
 use Rattle.doc_model.specs.Operations.{AreOps}
 use Rattle.doc_model.specs.Uri.{is_uri}
 use Rattle.doc_model.specs.declared.node.Node.{Node}
-use Rattle.doc_model.specs.declared.op.Op.{Op}
 use Rattle.doc_model.specs.declared.query.Query.{Query}
 use Rattle.doc_model.specs.declared.refusal.OpsRefusal.TheVariants as ops_rule
 use Rattle.json_text.specs.Answers.{placed}
@@ -29,17 +28,12 @@ use Rattle.text_prefixes.proofs.PrefixLemmas.{one_prefix_is_longest}
 use Rattle.transcript.specs.Forms.{Form, HasForm, IsFormText}
 use Rattle.transcript.specs.Forms as form
 use Rattle.transcript.proofs.OneFormLemmas.{one_form_is_had}
-use Rattle.transcript.specs.Refusals.{IsBadJson, is_answered, keeps_uri, last_place, uri_in}
-use Rattle.transcript.specs.declared.command.Command.{Command}
+use Rattle.transcript.specs.Refusals.{IsBadJson, keeps_uri, last_place, uri_in}
 use Rattle.transcript.specs.declared.command.Command.TheVariants as command
 use Rattle.transcript.specs.declared.command.When.TheVariants.{Front, At, Pinned}
 use Rattle.transcript.specs.declared.reply.BadKind.{BadKind}
 use Rattle.transcript.specs.declared.reply.BadKind.TheVariants as bad
-use Rattle.client_lines.specs.Lines.{OnlyReads, Reads}
-use Rattle.client_lines.specs.Readings.{ReadsCommand}
-use Rattle.client_lines.specs.declared.refusal.LineRefusal.{LineRefusal}
 use Rattle.client_lines.specs.declared.refusal.LineRefusal.TheVariants as refusal
-use Rattle.client_lines.proofs.FormLemmas.{no_empty_form}
 use Rattle.client_lines.proofs.Ways.{Reading, puts, PutWay, SearchWay, Answered, FormWay, Way, way_of}
 use Rattle.client_lines.proofs.Ways as way
 
@@ -84,10 +78,10 @@ bad_json_same : (text : List ℕ) (from : ℕ) (kind other : BadKind) (at place 
 bad_json_same text from kind other at place one two =
     let a = fault_of text kind at one in
     let b = fault_of text other place two in
-    let parts = some_pair_parts kind other at place
+    let tokens = some_pair_parts kind other at place
     (sym a.2 ∙ ap told_json (one_fault text a.0 b.0 a.1 b.1) ∙ b.2) in
-    ap (λ (k : BadKind). Err (refusal.Bad k (from + at))) parts.0
-    ∙ ap (λ (n : ℕ). Err (refusal.Bad other (from + n))) parts.1
+    ap (λ (k : BadKind). Err (refusal.Bad k (from + at))) tokens.0
+    ∙ ap (λ (n : ℕ). Err (refusal.Bad other (from + n))) tokens.1
 
 bad_json_no_tree : (text : List ℕ) (kind : BadKind) (at : ℕ) (root : Node) → IsBadJson text kind at →
     IsJson text root → ⊥

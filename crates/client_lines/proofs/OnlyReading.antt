@@ -4,6 +4,8 @@ use Rattle.transcript.specs.Commands.{Asks}
 use Rattle.transcript.specs.Forms.{HasForm}
 use Rattle.transcript.specs.Refusals.{ComesLater}
 use Rattle.transcript.specs.declared.command.Command.{Command}
+use Rattle.transcript.specs.declared.command.Command.TheVariants as command
+use Rattle.client_lines.specs.Laws.{OneReadingIsHad}
 use Rattle.client_lines.specs.Lines.{OnlyReads, Reads}
 use Rattle.client_lines.specs.Readings.{ReadsCommand}
 use Rattle.client_lines.specs.declared.refusal.LineRefusal.{LineRefusal}
@@ -58,6 +60,17 @@ seen_same line r s (inr (q, one, not, r_is, some)) (inl (empty, s_is)) = absurd 
 seen_same line r s (inr (q, one, not, r_is, some)) (inr (p, two, not', s_is, some')) =
     r_is ∙ ap lift (command_same line q p not not' one two) ∙ sym s_is
 
+pub one_reading_is_had : OneReadingIsHad
+one_reading_is_had line a b a_not b_not one two =
+    seen_same line a b (seen line a a_not one) (seen line b b_not two)
+
+-- a line that asks anything else doesn't ask to quit
+pub asks_no_quit : (line : List ℕ) (asked : Command) → Asks line asked → asked ≢ command.Quit →
+    Asks line command.Quit → ⊥
+asks_no_quit line asked asks differs quits =
+    let same = one_reading_is_had line (Ok (Some asked)) (Ok (Some command.Quit)) (λ e. cc) (λ e. cc) asks quits in
+    differs (cc)
+
 memory_or_not : (r : Answer) → (r ≡ Err refusal.Memory) ⊎ (r ≢ Err refusal.Memory)
 memory_or_not (Ok asked) = inr (λ e. cc)
 memory_or_not (Err (refusal.Bad kind place)) = inr (λ e. cc)
@@ -68,7 +81,7 @@ only_by : (line : List ℕ) (result : Answer) → (result ≡ Err refusal.Memory
     Reads line result → OnlyReads line result
 only_by line result (inl memory) reads other not two = inr memory
 only_by line result (inr some) reads other not two =
-    inl (seen_same line result other (seen line result some reads) (seen line other not two))
+    inl (one_reading_is_had line result other some not reads two)
 
 pub only_reads : (line : List ℕ) (result : Answer) → Reads line result → OnlyReads line result
 only_reads line result = only_by line result (memory_or_not result)

@@ -1,11 +1,9 @@
 -- How far bytes go along the texts of a language that is made of others.
-use Rattle.std.proofs.Common.{◌≡◌, ◌≢◌, ◌≤◌, ◌<◌, ◌+◌, ◌-◌, ◌⊎◌, ◌↔◌, inl, inr, ℕ, suc, List, [], ◌∷◌, ◌++◌, length, take, drop, get_or, refl, sym, ◌∙◌, ap, subst, append_assoc, length-append, length-take, length-drop, arith}
-use Rattle.std.proofs.lemmas.Bool.{cases_lt}
-use Rattle.std.proofs.lemmas.List.{take-append-drop, append_cancel_left, append-nil, take_all, take-take, take-append-le, take_at, drop_at, get_or_append_left, get_or-take, drop-append-le, length-take-le, get_or_at, get_or-append-add, get_or-drop}
-use Rattle.std.specs.Prelude.{All}
+use Rattle.std.proofs.Common.{◌≡◌, ◌≤◌, ◌<◌, ◌+◌, ◌-◌, ◌↔◌, ℕ, List, ◌++◌, length, take, drop, get_or, refl, sym, ◌∙◌, ap, subst, append_assoc, length-append, arith}
+use Rattle.std.proofs.lemmas.List.{take-append-drop, append_cancel_left, take_at, drop_at, get_or_append_left, get_or-take, length-take-le}
 use Rattle.text_prefixes.specs.Prefixes.{Begins, IsLongestPrefix}
 use Rattle.text_prefixes.proofs.PrefixLemmas.{take_more}
-use Rattle.client_lines.specs.Rows.{Behind, Then}
+use Rattle.client_lines.specs.Rows.{Behind}
 
 -- a prefix that has the head has a prefix of the rest behind it
 take_behind : (head rest : List ℕ) (n : ℕ) → take (length head + n) (head ++ rest) ≡ head ++ take n rest

@@ -4,15 +4,15 @@ use Rattle.std.specs.Prelude.{Option, Some, None}
 use Rattle.client_lines.specs.Rows.{Behind, IsTail}
 use Rattle.client_lines.specs.declared.row.Last.{Last}
 use Rattle.client_lines.specs.declared.row.Last.TheVariants.{Nothing, Whole, Rest}
-use Rattle.client_lines.specs.declared.row.Span.{Span}
-use Rattle.client_lines.specs.declared.row.Span.TheVariants.{Word, Timestamp}
+use Rattle.client_lines.specs.declared.row.WordKind.{WordKind}
+use Rattle.client_lines.specs.declared.row.WordKind.TheVariants.{Word, Timestamp}
 
 pub record RowText : Type 0 where
   pub head : List ℕ
-  pub middle : Option Span
+  pub middle : Option WordKind
   pub last : Last
 
-abbrev row : List ℕ → Option Span → Last → RowText
+abbrev row : List ℕ → Option WordKind → Last → RowText
 row head middle last = record { head = head; middle = middle; last = last }
 
 -- of some of the rows

@@ -1,12 +1,13 @@
 -- Bytes on their way to a sink, one piece after another.
-use Rattle.std.proofs.Common.{◌≡◌, ◌≤◌, ◌<◌, ◌+◌, ◌-◌, ℕ, List, [], ◌∷◌, suc, ◌++◌, length, take, drop, get_or, sym, ◌∙◌, ap, subst, min, Option, Some, None, Result, Ok, Err, append-nil, append_assoc, length-append, length-take, arith}
+use Rattle.std.proofs.Common.{◌≡◌, ◌≤◌, ◌<◌, ◌+◌, ◌-◌, ℕ, List, [], ◌∷◌, suc, ◌++◌, length, take, drop, get_or, sym, ◌∙◌, ap, subst, min, Option, Some, None, Result, Ok, Err, append-nil, append_assoc, length-append, length-take, take_all, arith}
 use Rattle.std.proofs.lemmas.List.{take-append-drop, take-take, drop-take, take_rest, take_more, flat_map_more, get_or_default}
 use Rattle.std.proofs.lemmas.Grind.{common_steps, flat_map-append}
 use Rattle.std.specs.List.{flat_map}
 use Rattle.std.specs.Io.KnownBytes.{Appends}
 use Rattle.std.specs.Result.{IsErr}
+use Rattle.disk_model.specs.Causes.{HasCause}
 use Rattle.disk_model.specs.declared.failed.Failed.{Failed}
-use Rattle.client_lines.specs.Sending.{Passes}
+use Rattle.client_lines.specs.Sending.{Passes, Puts}
 
 pub appends_none : (x : Option (List ℕ)) → Appends x x []
 appends_none None = tt
@@ -121,7 +122,7 @@ module _ {X : Type 0} (f : X → List ℕ) where
       subst (λ (l : List ℕ). Passes (Ok done) w u x z l) (sym (flat-more xs i item lt is))
       (passes_more done (Ok also) w v u x y z (flat_map f (take i xs)) (f item) h k)
 
-  -- what stands at an index doesn't depend on the default
+  -- the element at an index doesn't depend on the default
   pub at-index : (xs : List X) (i : ℕ) (d : X) → i < length xs → get_or xs i d ≡ get_or xs i (get_or xs i d)
   at-index xs i d lt = get_or_default xs i d (get_or xs i d) lt
 
@@ -141,3 +142,77 @@ pub all_put : (new old piece : List ℕ) (n : ℕ) → new ≡ old ++ take n pie
     n ≡ min (length piece) (65536 - length old) → length new < 65536 → n ≡ length piece
 all_put new old piece n is count lt =
     omega (arith, ap length is, length-append old (take n piece), length-take n piece, count, lt)
+
+module _ {W : Type 0} (written : W → Option (List ℕ)) (faults : W → ℕ) where
+  -- a cause behind a call that succeeded
+  cause_later : (result : Result (Unit {0}) Failed) (x y z : W) → faults x ≤ faults y →
+      HasCause (faults y) (faults z) result → HasCause (faults x) (faults z) result
+  cause_later (Ok done) x y z le cause = record { later = omega (arith, le, cause.later); failed = tt }
+  cause_later (Err failed) x y z le cause = record {
+    later = omega (arith, le, cause.later);
+    failed = omega (arith, le, cause.failed);
+  }
+
+  -- two puts, one after the other
+  pub puts_more : (result : Result (Unit {0}) Failed) (w v u : List ℕ) (x y z : W) (a b : List ℕ) →
+      Puts written faults (Ok tt) w v x y a → Puts written faults result v u y z b →
+      Puts written faults result w u x z (a ++ b)
+  puts_more result w v u x y z a b h k = record {
+    bytes = passes_more tt result w v u (written x) (written y) (written z) a b h.bytes k.bytes;
+    room = k.room;
+    cause = cause_later result x y z h.cause.later k.cause;
+  }
+
+  -- a put that failed, and none behind it
+  pub puts_short : (result : Result (Unit {0}) Failed) (failed : Failed) (w v : List ℕ) (x y : W) (a b : List ℕ) →
+      IsErr result → Puts written faults (Err failed) w v x y a → Puts written faults result w v x y (a ++ b)
+  puts_short (Ok done) failed w v x y a b is h = absurd (cc)
+  puts_short (Err other) failed w v x y a b is h = record {
+    bytes = passes_stop other w v v (written x) (written y) a b h.bytes;
+    room = tt;
+    cause = record { later = h.cause.later; failed = h.cause.failed };
+  }
+
+  -- a piece for each, and a put of one more that failed
+  pub puts_break : {X : Type 0} (f : X → List ℕ) (result : Result (Unit {0}) Failed) (failed : Failed)
+      (w v u : List ℕ) (x y z : W) (xs : List X) (i : ℕ) (item : X) → i < length xs → item ≡ get_or xs i item →
+      IsErr result → Passes (Ok tt) w v (written x) (written y) (flat_map f (take i xs)) → faults x ≤ faults y →
+      Puts written faults (Err failed) v u y z (f item) → Puts written faults result w u x z (flat_map f xs)
+  puts_break f (Ok done) failed w v u x y z xs i item lt is err h le k = absurd (cc)
+  puts_break f (Err other) failed w v u x y z xs i item lt is err h le k = record {
+    bytes = passes_break f tt (Err other) failed w v u (written x) (written y) (written z) xs i item lt is err h k.bytes;
+    room = tt;
+    cause = cause_later (Err other) x y z le (record { later = k.cause.later; failed = k.cause.failed });
+  }
+
+  -- a piece for each of all
+  pub puts_all : {X : Type 0} (f : X → List ℕ) (w v : List ℕ) (x y : W) (xs : List X) (i : ℕ) → length xs ≤ i →
+      Passes (Ok tt) w v (written x) (written y) (flat_map f (take i xs)) → length v < 65536 → faults x ≤ faults y →
+      Puts written faults (Ok tt) w v x y (flat_map f xs)
+  puts_all {X} f w v x y xs i all h room le = record {
+    bytes = subst (λ (l : List X). Passes (Ok tt) w v (written x) (written y) (flat_map f l)) (take_all i xs all) h;
+    room = room;
+    cause = record { later = le; failed = tt };
+  }
+
+  -- all of a piece
+  pub puts_whole : (w v : List ℕ) (x y : W) (bytes : List ℕ) (at : ℕ) → length bytes ≤ at →
+      Passes (Ok tt) w v (written x) (written y) (take at bytes) → length v < 65536 → faults x ≤ faults y →
+      Puts written faults (Ok tt) w v x y bytes
+  puts_whole w v x y bytes at all h room le = record {
+    bytes = subst (λ (l : List ℕ). Passes (Ok tt) w v (written x) (written y) l) (take_all at bytes all) h;
+    room = room;
+    cause = record { later = le; failed = tt };
+  }
+
+  -- what waited didn't go
+  pub puts_off : (result : Result (Unit {0}) Failed) (failed : Failed) (w v u : List ℕ) (x y z : W) (bytes : List ℕ)
+      (at : ℕ) → IsErr result → Passes (Ok tt) w v (written x) (written y) (take at bytes) → faults x ≤ faults y →
+      Passes (Err failed) v u (written y) (written z) [] →
+      HasCause {T = Unit {0}} {E = Failed} (faults y) (faults z) (Err failed) → Puts written faults result w u x z bytes
+  puts_off (Ok done) failed w v u x y z bytes at err h le k cause = absurd (cc)
+  puts_off (Err other) failed w v u x y z bytes at err h le k cause = record {
+    bytes = passes_off tt (Err other) failed w v u (written x) (written y) (written z) bytes at err h k;
+    room = tt;
+    cause = cause_later (Err other) x y z le (record { later = cause.later; failed = cause.failed });
+  }

@@ -1,18 +1,17 @@
 -- Lemmas of words and timestamps.
-use Rattle.std.proofs.Common.{◌≡◌, ◌≢◌, ◌≤◌, ◌<◌, ◌+◌, ◌*◌, ◌-◌, ◌/◌, ◌%◌, ◌^◌, ◌⊎◌, inl, inr, ℕ, suc, zero, List, [], ◌∷◌, ◌++◌, length, take, drop, get_or, Option, Some, None, refl, sym, ◌∙◌, ap, subst, append_assoc, length-append, length-take, arith}
+use Rattle.std.proofs.Common.{◌≡◌, ◌≢◌, ◌≤◌, ◌<◌, ◌+◌, ◌*◌, ◌-◌, ◌/◌, ◌%◌, ◌^◌, ◌⊎◌, inl, inr, ℕ, suc, zero, List, [], ◌∷◌, ◌++◌, length, take, drop, get_or, Option, Some, None, refl, sym, ◌∙◌, ap, subst, append_assoc, length-append, arith}
 use Rattle.std.proofs.lemmas.Bool.{cases_lt}
-use Rattle.std.proofs.lemmas.Fmt.{decimal_digit, decimal_step, decimal_by_steps, decimal_nonempty, decimal_injective}
-use Rattle.std.proofs.lemmas.List.{take-append-drop, append-nil, take_more, take_all, same_from_push, take-take, nil_from_length, length-take-le, take_at, get_or-take}
-use Rattle.std.proofs.lemmas.List.Elements.{All-nil, All-cons, All-push, All-take, All-get_or, All-from_get_or}
+use Rattle.std.proofs.lemmas.Fmt.{decimal_digit, decimal_step, decimal_nonempty, decimal_injective}
+use Rattle.std.proofs.lemmas.List.{append-nil, take_more, take_all, same_from_push, nil_from_length, length-take-le, take_at, get_or-take}
+use Rattle.std.proofs.lemmas.List.Elements.{All-nil, All-cons, All-take, All-get_or, All-from_get_or}
 use Rattle.std.specs.Fmt.{decimal}
 use Rattle.std.specs.Prelude.{All, MatchOption, IfSome}
 use Rattle.doc_meaning.specs.Replies.{last_timestamp}
 use Rattle.text_prefixes.proofs.PrefixLemmas.{take_more as prefix_more}
 use Rattle.transcript.proofs.FormLemmas.{IsNoSpace, decimal_clean, timestamp_small}
-use Rattle.transcript.specs.Forms.{IsWord}
-use Rattle.client_lines.specs.Rows.{IsTimestamp, IsSpan, IsNext, digits_of}
-use Rattle.client_lines.specs.declared.row.Span.{Span}
-use Rattle.client_lines.specs.declared.row.Span.TheVariants.{Word, Timestamp}
+use Rattle.client_lines.specs.Rows.{IsTimestamp, IsOfKind, IsNext, digits_of}
+use Rattle.client_lines.specs.declared.row.WordKind.{WordKind}
+use Rattle.client_lines.specs.declared.row.WordKind.TheVariants.{Word, Timestamp}
 
 -- the digits of a number: one, or those of a tenth of it and one more
 pub decimal_push : (t : ℕ) (ds : List ℕ) (b : ℕ) → t < 2 ^ 64 → decimal t ≡ ds ++ b ∷ [] →
@@ -28,21 +27,21 @@ decimal_push t ds b small is = by (cases_lt t 10)
         inr (le, same.0, same.1)
 
 -- no byte of a span is a space
-pub span_clean : (span : Span) (bytes : List ℕ) → IsSpan span bytes → All IsNoSpace bytes
+pub span_clean : (word_kind : WordKind) (bytes : List ℕ) → IsOfKind word_kind bytes → All IsNoSpace bytes
 span_clean Word bytes word = word.1
 span_clean Timestamp bytes (t, le, is) = subst (All IsNoSpace) (sym is) (decimal_clean t (timestamp_small t le))
 
 -- a span isn't empty
-pub span_some : (span : Span) (bytes : List ℕ) → IsSpan span bytes → 0 < length bytes
+pub span_some : (word_kind : WordKind) (bytes : List ℕ) → IsOfKind word_kind bytes → 0 < length bytes
 span_some Word bytes word = word.0
 span_some Timestamp bytes (t, le, is) = subst (λ (l : List ℕ). 0 < length l) (sym is) (decimal_nonempty t (timestamp_small t le))
 
 -- a word and a timestamp
-abbrev pub a_span : Span → List ℕ
+abbrev pub a_span : WordKind → List ℕ
 a_span Word = 0x30 ∷ []
 a_span Timestamp = decimal 0
 
-pub a_span_is : (span : Span) → IsSpan span (a_span span)
+pub a_span_is : (word_kind : WordKind) → IsOfKind word_kind (a_span word_kind)
 a_span_is Word = (omega arith, All-cons IsNoSpace 0x30 [] (omega arith) (All-nil IsNoSpace))
 a_span_is Timestamp = (0, omega arith, refl)
 
@@ -68,7 +67,7 @@ shorter_timestamp (suc k) a b len some (t, le, is) =
     by shorter (inr (ge, same, byte)) = shorter (t / 10, omega (arith, le), same)
 
 -- what begins a span is a span, if it isn't empty
-pub shorter_span : (span : Span) (a b : List ℕ) → 0 < length a → IsSpan span (a ++ b) → IsSpan span a
+pub shorter_span : (word_kind : WordKind) (a b : List ℕ) → 0 < length a → IsOfKind word_kind (a ++ b) → IsOfKind word_kind a
 shorter_span Word a b some word =
     (some, subst (All IsNoSpace) (take_at a b (length a) refl) (All-take IsNoSpace (length a) (a ++ b) word.1))
 shorter_span Timestamp a b some is = shorter_timestamp (length b) a b refl some is
@@ -82,7 +81,7 @@ next_digit v d some lt le =
     ∙ (ap (λ (k : ℕ). decimal k ++ (48 + (v * 10 + d) % 10) ∷ []) tenth
     ∙ ap (λ (k : ℕ). decimal v ++ (48 + k) ∷ []) last)
 
--- what stands last of digits is a digit
+-- the last of digits is a digit
 pub no_digit : (value : Option ℕ) (b : ℕ) → ((48 ≤ b) × (b ≤ 57) → ⊥) → (t : ℕ) → t ≤ last_timestamp →
     decimal t ≡ digits_of value ++ b ∷ [] → ⊥
 no_digit value b other t le is = by (decimal_push t (digits_of value) b (timestamp_small t le) is)
@@ -170,13 +169,13 @@ goes_on value bytes n b next so_far within byte is =
 
 -- no word passes a space
 pub word_stops : (bytes : List ℕ) (n more : ℕ) → get_or bytes n 0 ≡ 0x20 → n < more → more ≤ length bytes →
-    IsSpan Word (take more bytes) → ⊥
+    IsOfKind Word (take more bytes) → ⊥
 word_stops bytes n more space less le word =
     All-get_or IsNoSpace (take more bytes) n 0 (omega (arith, length-take-le more bytes le)) word.1
     (get_or-take more bytes n 0 less ∙ space)
 
 pub word_is : (bytes : List ℕ) (n : ℕ) → ((k : ℕ) → k < n → get_or bytes k 0 ≢ 0x20) → n ≤ length bytes → 0 < n →
-    IsSpan Word (take n bytes)
+    IsOfKind Word (take n bytes)
 word_is bytes n clean le some = (
   omega (arith, length-take-le n bytes le),
   All-from_get_or IsNoSpace (take n bytes) 0 (λ k lt is.

@@ -1,13 +1,12 @@
 -- How far bytes go along a span and texts of a language behind it.
-use Rattle.std.proofs.Common.{◌≡◌, ◌≢◌, ◌≤◌, ◌<◌, ◌+◌, ◌-◌, ◌⊎◌, ◌↔◌, inl, inr, ℕ, suc, List, [], ◌∷◌, ◌++◌, length, take, drop, get_or, refl, sym, ◌∙◌, ap, subst, append_assoc, length-append, length-take, length-drop, arith}
+use Rattle.std.proofs.Common.{◌≡◌, ◌≤◌, ◌<◌, ◌+◌, ◌-◌, ◌⊎◌, ◌↔◌, inl, inr, ℕ, List, [], ◌++◌, length, take, drop, get_or, refl, sym, ◌∙◌, ap, subst, append_assoc, length-append, length-drop, arith}
 use Rattle.std.proofs.lemmas.Bool.{cases_lt}
-use Rattle.std.proofs.lemmas.List.{take-append-drop, append_cancel_left, append-nil, take_all, take-take, take-append-le, take_at, drop_at, get_or_append_left, get_or-take, length-take-le, get_or-append-add}
+use Rattle.std.proofs.lemmas.List.{take-append-drop, append_cancel_left, append-nil, take_all, take-take, take-append-le, take_at, get_or_append_left, get_or-take, length-take-le, get_or-append-add}
 use Rattle.std.proofs.lemmas.List.Elements.{All-get_or}
-use Rattle.std.specs.Prelude.{All}
 use Rattle.text_prefixes.specs.Prefixes.{Begins, IsLongestPrefix}
 use Rattle.text_prefixes.proofs.PrefixLemmas.{take_more}
-use Rattle.client_lines.specs.Rows.{Behind, Then, IsSpan}
-use Rattle.client_lines.specs.declared.row.Span.{Span}
+use Rattle.client_lines.specs.Rows.{Then, IsOfKind}
+use Rattle.client_lines.specs.declared.row.WordKind.{WordKind}
 use Rattle.client_lines.proofs.SpanLemmas.{span_clean, span_some, a_span, a_span_is, shorter_span}
 use Rattle.transcript.proofs.FormLemmas.{IsNoSpace}
 
@@ -16,13 +15,13 @@ abbrev pub Opens : List ℕ → Type 0
 Opens more = 0 < length more → get_or more 0 0 ≡ 0x20
 
 -- the bytes have a span up to there, and no longer one
-pub record SpanEnds (span : Span) (bytes : List ℕ) (end : ℕ) : Type 0 where
+pub record SpanEnds (word_kind : WordKind) (bytes : List ℕ) (end : ℕ) : Type 0 where
   pub most : end ≤ length bytes
-  pub is : 0 < end → IsSpan span (take end bytes)
-  pub longest : (n : ℕ) → end < n → n ≤ length bytes → IsSpan span (take n bytes) → ⊥
+  pub is : 0 < end → IsOfKind word_kind (take end bytes)
+  pub longest : (n : ℕ) → end < n → n ≤ length bytes → IsOfKind word_kind (take n bytes) → ⊥
 
-module _ (span : Span) (bytes : List ℕ) (end : ℕ) (ends : SpanEnds span bytes end) where
-  module _ (m : ℕ) (x front more : List ℕ) (le : m ≤ length bytes) (is : IsSpan span front)
+module _ (word_kind : WordKind) (bytes : List ℕ) (end : ℕ) (ends : SpanEnds word_kind bytes end) where
+  module _ (m : ℕ) (x front more : List ℕ) (le : m ≤ length bytes) (is : IsOfKind word_kind front)
       (eq : take m bytes ++ x ≡ front ++ more) where
     -- what begins so has a span of the bytes in front, where that doesn't pass them
     front_within : length front ≤ m → front ≡ take (length front) bytes
@@ -33,14 +32,14 @@ module _ (span : Span) (bytes : List ℕ) (end : ℕ) (ends : SpanEnds span byte
         ∙ take-take (length front) m bytes short))
 
     -- else the bytes are one
-    front_past : m < length front → 0 < m → IsSpan span (take m bytes)
+    front_past : m < length front → 0 < m → IsOfKind word_kind (take m bytes)
     front_past long some =
         let same : take m bytes ≡ take m front =
         sym (take_at (take m bytes) x m (length-take-le m bytes le))
         ∙ (ap (λ (l : List ℕ). take m l) eq ∙ take-append-le m front more (omega arith)) in
-        subst (IsSpan span) (sym same)
-        (shorter_span span (take m front) (drop m front) (omega (arith, length-take-le m front (omega arith)))
-        (subst (IsSpan span) (sym (take-append-drop m front)) is))
+        subst (IsOfKind word_kind) (sym same)
+        (shorter_span word_kind (take m front) (drop m front) (omega (arith, length-take-le m front (omega arith)))
+        (subst (IsOfKind word_kind) (sym (take-append-drop m front)) is))
 
     -- no shorter one, since no space is in it
     front_not_short : Opens more → end ≤ m → length front < end → ⊥
@@ -56,7 +55,7 @@ module _ (span : Span) (bytes : List ℕ) (end : ℕ) (ends : SpanEnds span byte
         let space : get_or more 0 0 ≡ 0x20 = opens (omega (arith, length-take-le m bytes le)) in
         let clean : IsNoSpace (get_or (take end bytes) (length front) 0) =
         All-get_or IsNoSpace (take end bytes) (length front) 0 (omega (arith, length-take-le end bytes ends.most))
-        (span_clean span (take end bytes) (ends.is (omega arith))) in
+        (span_clean word_kind (take end bytes) (ends.is (omega arith))) in
         clean (get_or-take end bytes (length front) 0 short
         ∙ (sym mine ∙ (ap (λ (l : List ℕ). get_or l (length front) 0) eq ∙ (theirs ∙ space))))
 
@@ -70,7 +69,7 @@ module _ (span : Span) (bytes : List ℕ) (end : ℕ) (ends : SpanEnds span byte
             inr (long, omega (arith, not_more))
         by (inr short) =
             let not_more : end < length front → ⊥ = λ lt. ends.longest (length front) lt (omega arith)
-            (subst (IsSpan span) (front_within short) is) in
+            (subst (IsOfKind word_kind) (front_within short) is) in
             let not_less : length front < end → ⊥ = front_not_short opens in' in
             inl (omega (arith, not_more, not_less))
 
@@ -80,8 +79,8 @@ module _ (span : Span) (bytes : List ℕ) (end : ℕ) (ends : SpanEnds span byte
       where
         by : ((m < length front) ⊎ (length front ≤ m)) → ⊥
         by (inl long) = ends.longest m (omega arith) le (front_past long some)
-        by (inr short) = ends.longest (length front) (omega (arith, span_some span front is)) (omega arith)
-            (subst (IsSpan span) (front_within short) is)
+        by (inr short) = ends.longest (length front) (omega (arith, span_some word_kind front is)) (omega arith)
+            (subst (IsOfKind word_kind) (front_within short) is)
 
     behind_front : length front ≡ end → end ≤ m → more ≡ take (m - end) (drop end bytes) ++ x
     behind_front at in' =
@@ -93,7 +92,7 @@ module _ (span : Span) (bytes : List ℕ) (end : ℕ) (ends : SpanEnds span byte
 
   module _ (IsText : List ℕ → Type 0) where
     pub reach_then : ((more : List ℕ) → IsText more → Opens more) → 0 < end → (n : ℕ) →
-        IsLongestPrefix IsText (drop end bytes) n → IsLongestPrefix (Then (IsSpan span) IsText) bytes (end + n)
+        IsLongestPrefix IsText (drop end bytes) n → IsLongestPrefix (Then (IsOfKind word_kind) IsText) bytes (end + n)
     reach_then opens some n reach = record {
       within = omega (arith, reach.within, length-drop end bytes, ends.most);
       begins = begins reach.begins;
@@ -103,7 +102,7 @@ module _ (span : Span) (bytes : List ℕ) (end : ℕ) (ends : SpanEnds span byte
         minus : (end + n) - end ≡ n
         minus = omega arith
 
-        begins : Begins IsText (take n (drop end bytes)) → Begins (Then (IsSpan span) IsText) (take (end + n) bytes)
+        begins : Begins IsText (take n (drop end bytes)) → Begins (Then (IsOfKind word_kind) IsText) (take (end + n) bytes)
         begins (x, is) =
             let cut : take (end + n) bytes ≡ take end bytes ++ take n (drop end bytes) =
             take_more bytes end (end + n) (omega arith)
@@ -118,7 +117,7 @@ module _ (span : Span) (bytes : List ℕ) (end : ℕ) (ends : SpanEnds span byte
               ),
             )
 
-        longest : (m : ℕ) → end + n < m → m ≤ length bytes → Begins (Then (IsSpan span) IsText) (take m bytes) → ⊥
+        longest : (m : ℕ) → end + n < m → m ≤ length bytes → Begins (Then (IsOfKind word_kind) IsText) (take m bytes) → ⊥
         longest m lt le (x, (front, more, is, text, eq)) =
             by (front_ends m x front more le is eq (opens more text) some (omega arith))
           where
@@ -128,11 +127,11 @@ module _ (span : Span) (bytes : List ℕ) (end : ℕ) (ends : SpanEnds span byte
             by (inr (long, at)) = omega (arith, lt, at)
 
     pub whole_then : ((more : List ℕ) → IsText more → Opens more) → 0 < end →
-        IsText (drop end bytes) ↔ Then (IsSpan span) IsText bytes
+        IsText (drop end bytes) ↔ Then (IsOfKind word_kind) IsText bytes
     whole_then opens some =
         (λ text. (take end bytes, drop end bytes, ends.is some, text, sym (take-append-drop end bytes)), back)
       where
-        back : Then (IsSpan span) IsText bytes → IsText (drop end bytes)
+        back : Then (IsOfKind word_kind) IsText bytes → IsText (drop end bytes)
         back (front, more, is, text, eq) =
             by (front_ends (length bytes) [] front more (omega arith) is all (opens more text) some ends.most)
           where
@@ -149,45 +148,45 @@ module _ (span : Span) (bytes : List ℕ) (end : ℕ) (ends : SpanEnds span byte
                 absurd (omega arith)
 
     -- where no span begins the bytes
-    pub reach_none : end ≡ 0 → (text : List ℕ) → IsText text → IsLongestPrefix (Then (IsSpan span) IsText) bytes 0
+    pub reach_none : end ≡ 0 → (text : List ℕ) → IsText text → IsLongestPrefix (Then (IsOfKind word_kind) IsText) bytes 0
     reach_none none text is = record {
       within = omega arith;
-      begins = (a_span span ++ text, (a_span span, text, a_span_is span, is, refl));
-      longest = λ (m : ℕ) lt le (b : Begins (Then (IsSpan span) IsText) (take m bytes)).
+      begins = (a_span word_kind ++ text, (a_span word_kind, text, a_span_is word_kind, is, refl));
+      longest = λ (m : ℕ) lt le (b : Begins (Then (IsOfKind word_kind) IsText) (take m bytes)).
           none_begins m b.0 b.1.0 b.1.1 le b.1.2 b.1.4 none lt;
     }
 
-    pub not_whole_none : end ≡ 0 → Then (IsSpan span) IsText bytes → ⊥
+    pub not_whole_none : end ≡ 0 → Then (IsOfKind word_kind) IsText bytes → ⊥
     not_whole_none none (front, more, is, text, eq) =
         let len : length bytes ≡ length front + length more = ap length eq ∙ length-append front more in
         let all : take (length bytes) bytes ++ [] ≡ front ++ more =
         append-nil (take (length bytes) bytes) ∙ (take_all (length bytes) bytes (omega arith) ∙ eq) in
-        none_begins (length bytes) [] front more (omega arith) is all none (omega (arith, span_some span front is))
+        none_begins (length bytes) [] front more (omega arith) is all none (omega (arith, span_some word_kind front is))
 
   -- a span alone
-  pub reach_alone : IsLongestPrefix (IsSpan span) bytes end
+  pub reach_alone : IsLongestPrefix (IsOfKind word_kind) bytes end
   reach_alone = record {
     within = ends.most;
     begins = begins (cases_lt 0 end);
-    longest = λ (m : ℕ) lt le (b : Begins (IsSpan span) (take m bytes)). ends.longest m lt le
-        (shorter_span span (take m bytes) b.0 (omega (arith, length-take-le m bytes le)) b.1);
+    longest = λ (m : ℕ) lt le (b : Begins (IsOfKind word_kind) (take m bytes)). ends.longest m lt le
+        (shorter_span word_kind (take m bytes) b.0 (omega (arith, length-take-le m bytes le)) b.1);
   }
     where
-      begins : ((0 < end) ⊎ (end ≤ 0)) → Begins (IsSpan span) (take end bytes)
-      begins (inl some) = ([], subst (IsSpan span) (sym (append-nil (take end bytes))) (ends.is some))
+      begins : ((0 < end) ⊎ (end ≤ 0)) → Begins (IsOfKind word_kind) (take end bytes)
+      begins (inl some) = ([], subst (IsOfKind word_kind) (sym (append-nil (take end bytes))) (ends.is some))
       begins (inr none) =
           let at : 0 ≡ end = omega arith in
-          subst (λ (k : ℕ). Begins (IsSpan span) (take k bytes)) at (a_span span, a_span_is span)
+          subst (λ (k : ℕ). Begins (IsOfKind word_kind) (take k bytes)) at (a_span word_kind, a_span_is word_kind)
 
-  pub whole_alone : ((0 < end) × (end ≡ length bytes)) ↔ IsSpan span bytes
+  pub whole_alone : ((0 < end) × (end ≡ length bytes)) ↔ IsOfKind word_kind bytes
   whole_alone = (there, back)
     where
-      there : ((0 < end) × (end ≡ length bytes)) → IsSpan span bytes
-      there h = subst (IsSpan span) (take_all end bytes (omega (arith, h.1))) (ends.is h.0)
+      there : ((0 < end) × (end ≡ length bytes)) → IsOfKind word_kind bytes
+      there h = subst (IsOfKind word_kind) (take_all end bytes (omega (arith, h.1))) (ends.is h.0)
 
-      back : IsSpan span bytes → (0 < end) × (end ≡ length bytes)
+      back : IsOfKind word_kind bytes → (0 < end) × (end ≡ length bytes)
       back is =
-          let some : 0 < length bytes = span_some span bytes is in
+          let some : 0 < length bytes = span_some word_kind bytes is in
           let not_less : end < length bytes → ⊥ = λ lt. ends.longest (length bytes) lt (omega arith)
-          (subst (IsSpan span) (sym (take_all (length bytes) bytes (omega arith))) is) in
+          (subst (IsOfKind word_kind) (sym (take_all (length bytes) bytes (omega arith))) is) in
           (omega (arith, not_less, ends.most), omega (arith, not_less, ends.most))

@@ -1,8 +1,7 @@
 -- The ways in which a line that isn't empty is read.
-use Rattle.std.proofs.Common.{◌≡◌, ◌≢◌, ℕ, ◌+◌, ◌<◌, ◌^◌, ◌⊎◌, inl, inr, List, [], ◌∷◌, Bool, true, false, Option, Some, None, Result, Ok, Err, refl, sym, ap, ◌∙◌, subst}
+use Rattle.std.proofs.Common.{◌≡◌, ◌≢◌, ℕ, ◌+◌, ◌<◌, ◌^◌, inl, inr, List, [], ◌∷◌, true, false, Option, Some, None, Result, Ok, Err, refl, sym, ap, ◌∙◌, subst}
 use Rattle.std.proofs.lemmas.Bool.{false≢true}
 use Rattle.std.proofs.lemmas.Option.{some_pair_parts}
-use Rattle.std.specs.Prelude.{IsTrue}
 use Rattle.std.specs.Str.{IsUtf8, IsValidUpTo}
 use Rattle.cts_meaning.specs.Faults.{IsQueryFault}
 use Rattle.cts_meaning.specs.Saying.{IsQueryText}
@@ -99,18 +98,18 @@ json_way : (f : Form) (from : ℕ) (text : List ℕ) (kind : BadKind) (at place 
     json_in f ≡ Some (from, text) → IsBadJson text kind at → place ≡ from + at →
     Answered f (Err (refusal.Bad kind place))
 json_way (form.put uri json) from text kind at place does here is at_is =
-    let parts = some_pair_parts (last_place (form.put uri json)) from json text here in
-    bad_json kind at (subst (λ (t : List ℕ). IsBadJson t kind at) (sym parts.1) is)
-    (ap (λ (n : ℕ). Err (refusal.Bad kind n)) (at_is ∙ ap (λ (n : ℕ). n + at) (sym parts.0)))
+    let tokens = some_pair_parts (last_place (form.put uri json)) from json text here in
+    bad_json kind at (subst (λ (t : List ℕ). IsBadJson t kind at) (sym tokens.1) is)
+    (ap (λ (n : ℕ). Err (refusal.Bad kind n)) (at_is ∙ ap (λ (n : ℕ). n + at) (sym tokens.0)))
 json_way (form.remove uri) from text kind at place does here is at_is = absurd (none_some (from, text) here)
 json_way (form.commit json) from text kind at place does here is at_is = absurd (false≢true does)
 json_way (form.get Front uri) from text kind at place does here is at_is = absurd (none_some (from, text) here)
 json_way (form.get (At t) uri) from text kind at place does here is at_is = absurd (none_some (from, text) here)
 json_way (form.get Pinned uri) from text kind at place does here is at_is = absurd (none_some (from, text) here)
 json_way (form.search Front json) from text kind at place does here is at_is =
-    let parts = some_pair_parts (last_place (form.search Front json)) from json text here in
-    bad_text kind at (subst (λ (t : List ℕ). IsBadJson t kind at) (sym parts.1) is)
-    (ap (λ (n : ℕ). Err (refusal.Bad kind n)) (at_is ∙ ap (λ (n : ℕ). n + at) (sym parts.0)))
+    let tokens = some_pair_parts (last_place (form.search Front json)) from json text here in
+    bad_text kind at (subst (λ (t : List ℕ). IsBadJson t kind at) (sym tokens.1) is)
+    (ap (λ (n : ℕ). Err (refusal.Bad kind n)) (at_is ∙ ap (λ (n : ℕ). n + at) (sym tokens.0)))
 json_way (form.search (At t) json) from text kind at place does here is at_is = absurd (false≢true does)
 json_way (form.search Pinned json) from text kind at place does here is at_is = absurd (false≢true does)
 json_way (form.estimate when json) from text kind at place does here is at_is = absurd (false≢true does)

@@ -1,8 +1,8 @@
 pub mod Finds
+pub mod Laws
 pub mod LineForms
 pub mod Lines
-pub mod Parts
+pub mod Tokens
 pub mod Readings
-pub mod ReplyGroups
 pub mod Rows
 pub mod Sending

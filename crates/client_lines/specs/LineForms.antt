@@ -1,5 +1,5 @@
 -- What is found in a line, by its form.
-use Rattle.std.specs.Prelude.{ℕ, ◌≡◌, ◌≢◌, ◌<◌, ◌++◌, Bool, true, false, List, length, codes, Option, MatchOption}
+use Rattle.std.specs.Prelude.{ℕ, ◌≡◌, ◌≢◌, ◌++◌, true, false, List, length, codes, Option, MatchOption}
 use Rattle.text_prefixes.specs.Prefixes.{IsLongestPrefix}
 use Rattle.transcript.specs.Forms.{Form, Fits, HasForm, IsFormText, IsWord, words_before}
 use Rattle.transcript.specs.Forms as form
@@ -9,7 +9,7 @@ use Rattle.client_lines.specs.declared.form.LineForm.{LineForm}
 use Rattle.client_lines.specs.declared.form.LineForm.TheVariants.{Put, Remove, Get, Search, Stamp, Quit, Later}
 use denote.Ref.{Bor}
 
--- a line has a form, and what stands in it
+-- a line has a form, and holds this
 abbrev pub HasLineForm : List ℕ → LineForm → Type 0
 HasLineForm line (Put uri json) = HasForm line (form.put uri.now json.now)
 HasLineForm line (Remove uri) = HasForm line (form.remove uri.now)

@@ -1,6 +1,6 @@
 -- Steps of reading a line.
 use Rattle.std.specs.Prelude.{ℕ, ◌≡◌, ◌+◌, ◌<◌, ◌^◌, List, [], ◌∷◌, None, Result, Ok, Err}
-use Rattle.doc_model.specs.Documents.{document_of, document_size}
+use Rattle.doc_model.specs.Documents.{document_of}
 use Rattle.doc_model.specs.Operations.{AreOps, op_size}
 use Rattle.doc_model.specs.declared.node.Node.{Node}
 use Rattle.doc_model.specs.declared.op.Op.{Op}

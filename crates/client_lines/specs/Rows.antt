@@ -1,4 +1,4 @@
--- The lines of the forms as rows, along which a line goes: a text, perhaps a word or a timestamp and a space behind it,
+-- The lines of the forms as rows, with which a line is matched: a text, perhaps a word or a timestamp and a space behind it,
 -- and what is last.
 use Rattle.std.specs.Prelude.{ℕ, ◌≡◌, ◌<◌, ◌≤◌, ◌⊎◌, ◌↔◌, List, [], ◌∷◌, ◌++◌, length, take, Option, Some, None, IsTrue}
 use Rattle.std.specs.Fmt.{decimal}
@@ -8,21 +8,21 @@ use Rattle.transcript.specs.Forms.{IsWord}
 use Rattle.client_lines.specs.declared.row.Last.{Last}
 use Rattle.client_lines.specs.declared.row.Last.TheVariants as last
 use Rattle.client_lines.specs.declared.row.Row.{Row}
-use Rattle.client_lines.specs.declared.row.Span.{Span}
-use Rattle.client_lines.specs.declared.row.Span.TheVariants.{Word, Timestamp}
-use Rattle.client_lines.specs.declared.way.Way.{Way}
+use Rattle.client_lines.specs.declared.row.WordKind.{WordKind}
+use Rattle.client_lines.specs.declared.row.WordKind.TheVariants.{Word, Timestamp}
+use Rattle.client_lines.specs.declared.prefix_match.PrefixMatch.{PrefixMatch}
 
 -- digits of a number up to the last timestamp, without a leading zero
 abbrev pub IsTimestamp : List ℕ → Type 0
 IsTimestamp digits = (t : ℕ) × (t ≤ last_timestamp) × (digits ≡ decimal t)
 
-abbrev pub IsSpan : Span → List ℕ → Type 0
-IsSpan Word bytes = IsWord bytes
-IsSpan Timestamp bytes = IsTimestamp bytes
+abbrev pub IsOfKind : WordKind → List ℕ → Type 0
+IsOfKind Word bytes = IsWord bytes
+IsOfKind Timestamp bytes = IsTimestamp bytes
 
 abbrev pub IsLast : Last → List ℕ → Type 0
 IsLast last.Nothing bytes = bytes ≡ []
-IsLast (last.Whole span) bytes = IsSpan span bytes
+IsLast (last.Whole word_kind) bytes = IsOfKind word_kind bytes
 IsLast last.Rest bytes = Unit {0}
 
 -- a text of the language behind a head
@@ -33,10 +33,10 @@ Behind head IsText bytes = (more : List ℕ) × IsText more × (bytes ≡ head +
 abbrev pub Then : (List ℕ → Type 0) → (List ℕ → Type 0) → List ℕ → Type 0
 Then IsFront IsText bytes = (front : List ℕ) × (more : List ℕ) × IsFront front × IsText more × (bytes ≡ front ++ more)
 
--- what stands behind the head of a row
-abbrev pub IsTail : Option Span → Last → List ℕ → Type 0
+-- what is behind the head of a row
+abbrev pub IsTail : Option WordKind → Last → List ℕ → Type 0
 IsTail None last bytes = IsLast last bytes
-IsTail (Some span) last bytes = Then (IsSpan span) (Behind (0x20 ∷ []) (IsLast last)) bytes
+IsTail (Some word_kind) last bytes = Then (IsOfKind word_kind) (Behind (0x20 ∷ []) (IsLast last)) bytes
 
 abbrev pub IsOfRow : Row → List ℕ → Type 0
 IsOfRow row bytes = Behind row.head.now (IsTail row.middle row.last) bytes
@@ -46,17 +46,17 @@ abbrev pub IsOfSome : List Row → List ℕ → Type 0
 IsOfSome [] bytes = ⊥
 IsOfSome (row ∷ rows) bytes = IsOfRow row bytes ⊎ IsOfSome rows bytes
 
--- how far a line goes along texts of a language, and whether it is one
-pub record Goes (IsText : List ℕ → Type 0) (line : List ℕ) (way : Way) : Type 0 where
-  pub reach : IsLongestPrefix IsText line way.count
-  pub whole : IsTrue way.whole ↔ IsText line
+-- how far a line matches texts of a language, and whether it is one
+pub record Matches (IsText : List ℕ → Type 0) (line : List ℕ) (prefix_match : PrefixMatch) : Type 0 where
+  pub reach : IsLongestPrefix IsText line prefix_match.count
+  pub whole : IsTrue prefix_match.whole ↔ IsText line
 
 -- the same of a language that may have no text: 0 then
-pub record GoesAtMost (IsText : List ℕ → Type 0) (line : List ℕ) (way : Way) : Type 0 where
-  pub within : way.count ≤ length line
-  pub begins : 0 < way.count → Begins IsText (take way.count line)
-  pub longest : (more : ℕ) → way.count < more → more ≤ length line → Begins IsText (take more line) → ⊥
-  pub whole : IsTrue way.whole ↔ IsText line
+pub record MatchesSome (IsText : List ℕ → Type 0) (line : List ℕ) (prefix_match : PrefixMatch) : Type 0 where
+  pub within : prefix_match.count ≤ length line
+  pub begins : 0 < prefix_match.count → Begins IsText (take prefix_match.count line)
+  pub longest : (more : ℕ) → prefix_match.count < more → more ≤ length line → Begins IsText (take more line) → ⊥
+  pub whole : IsTrue prefix_match.whole ↔ IsText line
 
 -- the digits of a number, none of none
 abbrev pub digits_of : Option ℕ → List ℕ

@@ -8,7 +8,7 @@ ghost use Rattle.transcript.specs.Forms as form;
 
 use crate::faults::{bad_json, check_uri};
 use crate::refusal::LineRefusal;
-use doc_model::{DocRefusal, Document, Node, Op, Ops, Text, Texts};
+use doc_model::{DocRefusal, Document, Node, Op, Ops, OpsRefusal, Text, Texts};
 use std::alloc::Global;
 use transcript::{BadKind, Command};
 
@@ -68,8 +68,10 @@ fn put(alloc: Global, uri: &str, root: Node) -> Result<Command, LineRefusal>
             },
         ),
         Err(DocRefusal::Memory) => Err(LineRefusal::Memory),
+        Err(DocRefusal::Size) => Err(TOO_LARGE),
         // The tree and the URI keep the other rules.
-        Err(_) => Err(TOO_LARGE),
+        Err(DocRefusal::Uri | DocRefusal::Collections | DocRefusal::Depth | DocRefusal::Names) =>
+            Err(TOO_LARGE),
     }
 }
 
@@ -81,6 +83,8 @@ fn commit(alloc: Global, op: Op) -> Result<Command, LineRefusal>
     list.push(op)?;
     match Ops::new(list) {
         Ok(ops) => Ok(Command::Commit(ops)),
-        Err(_) => Err(TOO_LARGE),
+        Err(OpsRefusal::Size) => Err(TOO_LARGE),
+        // There is one operation.
+        Err(OpsRefusal::Count { .. }) => Err(TOO_LARGE),
     }
 }

@@ -3,10 +3,10 @@ ghost use Rattle.client_lines.specs.LineForms.{HasLineForm, IsUnformed, FindsPut
 ghost use Rattle.client_lines.specs.Finds.{FindsRest};
 ghost use Rattle.transcript.specs.Forms.{IsWord};
 
-use crate::rows::{along_answered, along_at, along_others, along_pinned};
+use crate::rows::{match_answered, match_at, match_others, match_pinned};
 use crate::scan::{is, strip};
 
-/// What stands in a line, by its form.
+/// What a line holds, by its form.
 pub(crate) enum LineForm<'a> {
     Put { uri: &'a str, json: &'a [u8] },
     Remove { uri: &'a str },
@@ -52,7 +52,7 @@ fn put(line: &str) -> Option<(&str, &[u8])>
     Some((uri, json.as_bytes()))
 }
 
-// What stands behind the head, if it is one word.
+// The bytes behind the head, if they are one word.
 fn word_behind<'a>(line: &'a str, head: &str) -> Option<&'a str>
     ensures { FindsWord line.now head.now result }
 {
@@ -79,16 +79,16 @@ fn other_form(line: &str) -> Result<LineForm<'_>, u64>
     ensures none { IfErr result (IsUnformed line.now) }
 {
     let bytes = line.as_bytes();
-    let fixed = along_at(bytes).or(along_pinned(bytes));
+    let fixed = match_at(bytes).or(match_pinned(bytes));
     if fixed.whole {
         return Ok(LineForm::Later);
     }
     if let Some(json) = strip(bytes, b"search ") {
         return Ok(LineForm::Search { json });
     }
-    let others = along_others(bytes);
+    let others = match_others(bytes);
     if others.whole {
         return Ok(LineForm::Later);
     }
-    Err(fixed.or(others).or(along_answered(bytes)).count as u64)
+    Err(fixed.or(others).or(match_answered(bytes)).count as u64)
 }

@@ -1,6 +1,6 @@
 ghost use Rattle.std.specs.Prelude.{◌≡◌, ◌<◌, ◌≤◌, ◌↔◌, ◌-◌, ◌++◌, [], length, take, min, IfOk, IsTrue, OnOk};
 ghost use Rattle.disk_model.specs.Causes.{HasCause};
-ghost use Rattle.client_lines.specs.Sending.{Passes};
+ghost use Rattle.client_lines.specs.Sending.{Passes, Puts};
 
 use disk_model::{Failed, Sink};
 use std::alloc::{AllocError, Global};
@@ -48,7 +48,7 @@ impl Outbox {
         Ok(())
     }
 
-    // Puts the first bytes behind those that wait, as many as there is room for: how many.
+    // Buffers the first bytes, as many as there is room for, and returns how many.
     fn fill(&mut self, bytes: &[u8]) -> usize
         ensures kept { self.new ≡ self.old ++ take result bytes.now }
         ensures count { result ≡ min (length bytes.now) (65536 - length self.old) }
@@ -68,12 +68,10 @@ impl Outbox {
         self.len == CAPACITY
     }
 
-    /// Puts bytes behind those that wait, and sends whenever there is no room for one more: what a write sends has
-    /// some of the bytes that came last.
+    /// Buffers bytes behind those that wait, and sends whenever there is no room for one more byte: what a write sends
+    /// has some of the bytes that came last.
     pub(crate) fn add<W: Sink>(&mut self, sink: &mut W, bytes: &[u8]) -> Result<(), Failed>
-        ensures bytes { Passes result self.old self.new (W.written sink.old) (W.written sink.new) bytes.now }
-        ensures room { OnOk result (length self.new < 65536) }
-        ensures cause { HasCause (W.faults sink.old) (W.faults sink.new) result }
+        ensures { Puts W.written W.faults result self.old self.new sink.old sink.new bytes.now }
     {
         let mut at = self.fill(bytes);
         'full: while self.is_full() {

@@ -9,12 +9,12 @@ use std::alloc::Global;
 use std::str;
 use transcript::{BadKind, Command};
 
-/// What a line asks: none exactly for an empty line. The line stands without its line feed and the carriage return
-/// before it.
+/// Reads what a line asks; returns none exactly for an empty line. The line comes without its line feed and without the
+/// carriage return before it.
 ///
-/// It takes time n log n in the length of the line, and memory for what the command holds alone. A line is refused
-/// at the first check that it fails: its UTF-8, its form, its URI, its JSON and the query or the document that this
-/// is. Want of memory is free, but for an empty line and `quit`.
+/// It takes time n log n in the length of the line, and memory only for what the command holds. It refuses a line at
+/// the first check that fails: its UTF-8, its form, its URI, its JSON, and the query or the document that this is. Want
+/// of memory is free, but for an empty line and `quit`.
 pub fn read_line(alloc: Global, line: &[u8]) -> Result<Option<Command>, LineRefusal>
     ensures reads { Reads line.now result }
     ensures only { OnlyReads line.now result }

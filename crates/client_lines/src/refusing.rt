@@ -1,118 +1,101 @@
-// The texts of refusals.
-ghost use Rattle.std.specs.Prelude.{◌≡◌, ◌∷◌, [], length, ◌<◌, OnOk};
+//! The texts of refusals.
+
+ghost use Rattle.std.specs.Prelude.{◌≡◌, ◌∷◌, []};
 ghost use Rattle.std.specs.Fmt.{decimal};
-ghost use Rattle.disk_model.specs.Causes.{HasCause};
-ghost use Rattle.client_lines.specs.Parts.{part_text};
-ghost use Rattle.client_lines.specs.ReplyGroups.{IsRefusal, IsCallRefusal};
-ghost use Rattle.client_lines.specs.Sending.{Passes};
+ghost use Rattle.client_lines.specs.Tokens.{token_text};
+ghost use Rattle.client_lines.specs.Sending.{Puts};
 ghost use Rattle.transcript.specs.Texts.{text_of, bad_text, kind_text, line_of};
+ghost use Rattle.transcript.specs.declared.reply.Reply.TheVariants as reply;
 
 use crate::outbox::Outbox;
-use crate::part::Part::{self, File, Number, Word};
-use crate::words::{put_ended, put_line};
-use disk_model::{Failed, Sink};
+use crate::token::ReplyToken::{self, File, Number, Word};
+use crate::words::put_line;
+use disk_model::{Failed, FileName, Sink};
 use doc_model::{Kind, Text};
-use transcript::{BadKind, Reply};
+use transcript::BadKind;
 
-/// The greatest length of a line.
-const LONGEST_LINE: u64 = 4_194_304;
-
-/// The greatest depth of a query.
-const MOST_DEPTH: u64 = 32;
-
-/// The greatest number of queries and texts of a query.
-const MOST_NODES: u64 = 10_000;
-
-/// Puts the text of a refusal behind what waits.
-pub(crate) fn write_refusal<W: Sink>(
+/// Buffers what is wrong with a line, and where.
+pub(crate) fn put_bad<W: Sink>(
     outbox: &mut Outbox,
     sink: &mut W,
-    reply: &Reply,
+    kind: BadKind,
+    place: u64,
 ) -> Result<(), Failed>
-    requires { IsRefusal reply.now }
-    ensures bytes { Passes result outbox.old outbox.new (W.written sink.old) (W.written sink.new) (text_of reply.now) }
-    ensures room { OnOk result (length outbox.new < 65536) }
-    ensures cause { HasCause (W.faults sink.old) (W.faults sink.new) result }
+    ensures { Puts W.written W.faults result outbox.old outbox.new sink.old sink.new (text_of (reply.Bad kind place)) }
 {
-    match reply {
-        Reply::Long => put_line(outbox, sink, b"bad", &[Word(b"long"), Number(LONGEST_LINE)]),
-        Reply::Bad { kind, place } => put_line(
-            outbox,
-            sink,
-            b"bad",
-            &[Word(bad_text(*kind)), Number(*place)],
-        ),
-        Reply::NoPin => put_ended(outbox, sink, b"nopin"),
-        Reply::Deep => put_line(outbox, sink, b"bad", &[Word(b"deep"), Number(MOST_DEPTH)]),
-        Reply::Many => put_line(outbox, sink, b"bad", &[Word(b"many"), Number(MOST_NODES)]),
-        Reply::Directory => put_line(outbox, sink, b"bad", &[Word(b"directory")]),
-        Reply::Near => put_line(outbox, sink, b"bad", &[Word(b"near")]),
-        Reply::NoRange { name, kind } => put_line(
-            outbox,
-            sink,
-            b"norange",
-            &[text_word(name), Word(kind_text(*kind))],
-        ),
-        other => write_call_refusal(outbox, sink, other),
-    }
+    let more = [Word(bad_text(kind)), Number(place)];
+    put_line(outbox, sink, b"bad", &more)
 }
 
-// A refusal of what a line asked, or of a line that isn't answered yet.
-fn write_call_refusal<W: Sink>(
+/// Buffers the name and the kind of a range that no index has.
+pub(crate) fn put_no_range<W: Sink>(
     outbox: &mut Outbox,
     sink: &mut W,
-    reply: &Reply,
+    name: &Text,
+    kind: Kind,
 ) -> Result<(), Failed>
-    requires { IsCallRefusal reply.now }
-    ensures bytes { Passes result outbox.old outbox.new (W.written sink.old) (W.written sink.new) (text_of reply.now) }
-    ensures room { OnOk result (length outbox.new < 65536) }
-    ensures cause { HasCause (W.faults sink.old) (W.faults sink.new) result }
+    ensures { Puts W.written W.faults result outbox.old outbox.new sink.old sink.new
+        (text_of (reply.NoRange name.now kind)) }
 {
-    match reply {
-        Reply::Old { asked, merge } => put_pair(outbox, sink, b"old", *asked, *merge),
-        Reply::New { asked, front } => put_pair(outbox, sink, b"new", *asked, *front),
-        Reply::Back { t, merge } => put_pair(outbox, sink, b"back", *t, *merge),
-        Reply::Ahead { t, front } => put_pair(outbox, sink, b"ahead", *t, *front),
-        Reply::Twice { uri } => put_line(outbox, sink, b"twice", &[text_word(uri)]),
-        Reply::Conflict { uri, found, front } => put_line(
-            outbox,
-            sink,
-            b"conflict",
-            &[text_word(uri), Number(*found), Number(*front)],
-        ),
-        Reply::Spent { front } => put_line(outbox, sink, b"spent", &[Number(*front)]),
-        Reply::Down => put_ended(outbox, sink, b"down"),
-        Reply::Fault => put_ended(outbox, sink, b"fault"),
-        Reply::Damaged { file, place } => put_line(
-            outbox,
-            sink,
-            b"damaged",
-            &[File(*file), Number(*place)],
-        ),
-        Reply::Memory => put_ended(outbox, sink, b"memory"),
-        Reply::Later => put_ended(outbox, sink, b"later"),
-        _ => unreachable!(),
-    }
+    let more = [text_word(name), Word(kind_text(kind))];
+    put_line(outbox, sink, b"norange", &more)
 }
 
-// A word and two numbers.
-fn put_pair<W: Sink>(
+/// Buffers a URI that a commit names twice.
+pub(crate) fn put_twice<W: Sink>(
     outbox: &mut Outbox,
     sink: &mut W,
-    word: &[u8],
+    uri: &Text,
+) -> Result<(), Failed>
+    ensures { Puts W.written W.faults result outbox.old outbox.new sink.old sink.new (text_of (reply.Twice uri.now)) }
+{
+    put_line(outbox, sink, b"twice", &[text_word(uri)])
+}
+
+/// Buffers a URI whose live version isn't the expected one.
+pub(crate) fn put_conflict<W: Sink>(
+    outbox: &mut Outbox,
+    sink: &mut W,
+    uri: &Text,
+    found: u64,
+    front: u64,
+) -> Result<(), Failed>
+    ensures { Puts W.written W.faults result outbox.old outbox.new sink.old sink.new
+        (text_of (reply.Conflict uri.now found front)) }
+{
+    let more = [text_word(uri), Number(found), Number(front)];
+    put_line(outbox, sink, b"conflict", &more)
+}
+
+/// Buffers the file that is damaged, and where.
+pub(crate) fn put_damaged<W: Sink>(
+    outbox: &mut Outbox,
+    sink: &mut W,
+    file: FileName,
+    place: u64,
+) -> Result<(), Failed>
+    ensures { Puts W.written W.faults result outbox.old outbox.new sink.old sink.new
+        (text_of (reply.Damaged file place)) }
+{
+    put_line(outbox, sink, b"damaged", &[File(file), Number(place)])
+}
+
+/// Buffers a line of a keyword and two numbers.
+pub(crate) fn put_pair<W: Sink>(
+    outbox: &mut Outbox,
+    sink: &mut W,
+    keyword: &[u8],
     first: u64,
     second: u64,
 ) -> Result<(), Failed>
-    ensures bytes { Passes result outbox.old outbox.new (W.written sink.old) (W.written sink.new)
-        (line_of word.now (decimal first ∷ decimal second ∷ [])) }
-    ensures room { OnOk result (length outbox.new < 65536) }
-    ensures cause { HasCause (W.faults sink.old) (W.faults sink.new) result }
+    ensures { Puts W.written W.faults result outbox.old outbox.new sink.old sink.new
+        (line_of keyword.now (decimal first ∷ decimal second ∷ [])) }
 {
-    put_line(outbox, sink, word, &[Number(first), Number(second)])
+    put_line(outbox, sink, keyword, &[Number(first), Number(second)])
 }
 
-fn text_word(text: &Text) -> Part<'_>
-    ensures { part_text result ≡ text.now }
+fn text_word(text: &Text) -> ReplyToken<'_>
+    ensures { token_text result ≡ text.now }
 {
     Word(text.as_str().as_bytes())
 }

@@ -2,13 +2,13 @@
 #[derive(Clone, Copy)]
 pub(crate) struct Row<'a> {
     pub(crate) head: &'a [u8],
-    pub(crate) middle: Option<Span>,
+    pub(crate) middle: Option<WordKind>,
     pub(crate) last: Last,
 }
 
 /// Bytes without a space.
 #[derive(Clone, Copy)]
-pub(crate) enum Span {
+pub(crate) enum WordKind {
     /// One byte or more.
     Word,
     /// The digits of a timestamp.
@@ -19,7 +19,7 @@ pub(crate) enum Span {
 #[derive(Clone, Copy)]
 pub(crate) enum Last {
     Nothing,
-    Whole(Span),
+    Whole(WordKind),
     /// Any bytes.
     Rest,
 }

@@ -1,25 +1,25 @@
 ghost use Rattle.std.specs.Prelude.{◌≡◌, ◌<◌};
-ghost use Rattle.client_lines.specs.Rows.{GoesAtMost};
+ghost use Rattle.client_lines.specs.Rows.{MatchesSome};
 ghost use Rattle.client_lines.specs.LineForms.{IsLaterText, IsAnsweredText};
 
-use crate::row::{Last, Row, Span};
-use crate::way::{Way, along_rows};
+use crate::prefix_match::{PrefixMatch, match_rows};
+use crate::row::{Last, Row, WordKind};
 
 /// The forms that read at a timestamp.
 const AT: [Row<'static>; 3] = [
     Row {
         head: b"get at ",
-        middle: Some(Span::Timestamp),
-        last: Last::Whole(Span::Word),
+        middle: Some(WordKind::Timestamp),
+        last: Last::Whole(WordKind::Word),
     },
     Row {
         head: b"search at ",
-        middle: Some(Span::Timestamp),
+        middle: Some(WordKind::Timestamp),
         last: Last::Rest,
     },
     Row {
         head: b"estimate at ",
-        middle: Some(Span::Timestamp),
+        middle: Some(WordKind::Timestamp),
         last: Last::Rest,
     },
 ];
@@ -29,7 +29,7 @@ const PINNED: [Row<'static>; 3] = [
     Row {
         head: b"get pinned ",
         middle: None,
-        last: Last::Whole(Span::Word),
+        last: Last::Whole(WordKind::Word),
     },
     Row {
         head: b"search pinned ",
@@ -58,7 +58,7 @@ const OTHERS: [Row<'static>; 8] = [
     Row {
         head: b"forget ",
         middle: None,
-        last: Last::Whole(Span::Timestamp),
+        last: Last::Whole(WordKind::Timestamp),
     },
     Row {
         head: b"pin",
@@ -91,18 +91,18 @@ const OTHERS: [Row<'static>; 8] = [
 const ANSWERED: [Row<'static>; 6] = [
     Row {
         head: b"put ",
-        middle: Some(Span::Word),
+        middle: Some(WordKind::Word),
         last: Last::Rest,
     },
     Row {
         head: b"remove ",
         middle: None,
-        last: Last::Whole(Span::Word),
+        last: Last::Whole(WordKind::Word),
     },
     Row {
         head: b"get ",
         middle: None,
-        last: Last::Whole(Span::Word),
+        last: Last::Whole(WordKind::Word),
     },
     Row {
         head: b"search ",
@@ -121,30 +121,30 @@ const ANSWERED: [Row<'static>; 6] = [
     },
 ];
 
-/// How far a line goes along the forms that read at a timestamp.
-pub(crate) fn along_at(line: &[u8]) -> Way
-    ensures { GoesAtMost (IsLaterText (λ n. n ≡ 3)) line.now result }
+/// How far a line matches the forms that read at a timestamp.
+pub(crate) fn match_at(line: &[u8]) -> PrefixMatch
+    ensures { MatchesSome (IsLaterText (λ n. n ≡ 3)) line.now result }
 {
-    along_rows(&AT, line)
+    match_rows(&AT, line)
 }
 
-/// How far a line goes along the forms that read at the pin.
-pub(crate) fn along_pinned(line: &[u8]) -> Way
-    ensures { GoesAtMost (IsLaterText (λ n. n ≡ 2)) line.now result }
+/// How far a line matches the forms that read at the pin.
+pub(crate) fn match_pinned(line: &[u8]) -> PrefixMatch
+    ensures { MatchesSome (IsLaterText (λ n. n ≡ 2)) line.now result }
 {
-    along_rows(&PINNED, line)
+    match_rows(&PINNED, line)
 }
 
-/// How far a line goes along the other forms that aren't answered yet.
-pub(crate) fn along_others(line: &[u8]) -> Way
-    ensures { GoesAtMost (IsLaterText (λ n. n < 2)) line.now result }
+/// How far a line matches the other forms that aren't answered yet.
+pub(crate) fn match_others(line: &[u8]) -> PrefixMatch
+    ensures { MatchesSome (IsLaterText (λ n. n < 2)) line.now result }
 {
-    along_rows(&OTHERS, line)
+    match_rows(&OTHERS, line)
 }
 
-/// How far a line goes along the forms that are answered.
-pub(crate) fn along_answered(line: &[u8]) -> Way
-    ensures { GoesAtMost IsAnsweredText line.now result }
+/// How far a line matches the forms that are answered.
+pub(crate) fn match_answered(line: &[u8]) -> PrefixMatch
+    ensures { MatchesSome IsAnsweredText line.now result }
 {
-    along_rows(&ANSWERED, line)
+    match_rows(&ANSWERED, line)
 }

@@ -2,7 +2,7 @@ ghost use Rattle.std.specs.Prelude.{◌≡◌};
 ghost use Rattle.std.specs.Bool.{Decides};
 ghost use Rattle.client_lines.specs.Finds.{FindsRest};
 
-/// What stands behind a beginning, if the bytes have it.
+/// The bytes behind a beginning, if they have it.
 pub(crate) fn strip<'a>(bytes: &'a [u8], head: &[u8]) -> Option<&'a [u8]>
     ensures { FindsRest bytes.now head.now result }
 {

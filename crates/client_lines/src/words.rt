@@ -1,26 +1,22 @@
 ghost use Rattle.std.specs.List.{flat_map};
 ghost use Rattle.std.specs.Prelude.{◌++◌, length, ◌<◌, OnOk};
-ghost use Rattle.client_lines.specs.Parts.{line_text, spaced_part, spaced_parts};
-ghost use Rattle.client_lines.specs.Sending.{Passes};
-ghost use Rattle.disk_model.specs.Causes.{HasCause};
+ghost use Rattle.client_lines.specs.Tokens.{line_text, spaced_part, spaced_parts};
+ghost use Rattle.client_lines.specs.Sending.{Puts};
 ghost use Rattle.transcript.specs.Texts.{ended};
 
 use crate::outbox::Outbox;
-use crate::part::{Part, put_part};
+use crate::token::{ReplyToken, put_token};
 use disk_model::{Failed, Sink};
 use doc_model::Text;
 
-/// Puts a line behind what waits: a first word and more.
+/// Buffers a reply line: its keyword first, then its arguments.
 pub(crate) fn put_line<W: Sink>(
     outbox: &mut Outbox,
     sink: &mut W,
     first: &[u8],
-    more: &[Part<'_>],
+    more: &[ReplyToken<'_>],
 ) -> Result<(), Failed>
-    ensures bytes { Passes result outbox.old outbox.new (W.written sink.old) (W.written sink.new)
-        (line_text first.now more.now) }
-    ensures room { OnOk result (length outbox.new < 65536) }
-    ensures cause { HasCause (W.faults sink.old) (W.faults sink.new) result }
+    ensures { Puts W.written W.faults result outbox.old outbox.new sink.old sink.new (line_text first.now more.now) }
 {
     put_words(outbox, sink, first, more)?;
     outbox.add(sink, b"\n")
@@ -30,55 +26,46 @@ fn put_words<W: Sink>(
     outbox: &mut Outbox,
     sink: &mut W,
     first: &[u8],
-    more: &[Part<'_>],
+    more: &[ReplyToken<'_>],
 ) -> Result<(), Failed>
-    ensures bytes { Passes result outbox.old outbox.new (W.written sink.old) (W.written sink.new)
+    ensures { Puts W.written W.faults result outbox.old outbox.new sink.old sink.new
         (first.now ++ spaced_parts more.now) }
-    ensures room { OnOk result (length outbox.new < 65536) }
-    ensures cause { HasCause (W.faults sink.old) (W.faults sink.new) result }
 {
     outbox.add(sink, first)?;
     put_parts(outbox, sink, more)
 }
 
-/// Puts bytes and a line feed behind what waits.
+/// Buffers bytes and a line feed.
 pub(crate) fn put_ended<W: Sink>(
     outbox: &mut Outbox,
     sink: &mut W,
     bytes: &[u8],
 ) -> Result<(), Failed>
-    ensures bytes { Passes result outbox.old outbox.new (W.written sink.old) (W.written sink.new) (ended bytes.now) }
-    ensures room { OnOk result (length outbox.new < 65536) }
-    ensures cause { HasCause (W.faults sink.old) (W.faults sink.new) result }
+    ensures { Puts W.written W.faults result outbox.old outbox.new sink.old sink.new (ended bytes.now) }
 {
     outbox.add(sink, bytes)?;
     outbox.add(sink, b"\n")
 }
 
-/// Puts a text and a line feed behind what waits.
+/// Buffers a text and a line feed.
 pub(crate) fn put_text<W: Sink>(
     outbox: &mut Outbox,
     sink: &mut W,
     text: &Text,
 ) -> Result<(), Failed>
-    ensures bytes { Passes result outbox.old outbox.new (W.written sink.old) (W.written sink.new) (ended text.now) }
-    ensures room { OnOk result (length outbox.new < 65536) }
-    ensures cause { HasCause (W.faults sink.old) (W.faults sink.new) result }
+    ensures { Puts W.written W.faults result outbox.old outbox.new sink.old sink.new (ended text.now) }
 {
     put_ended(outbox, sink, text.as_str().as_bytes())
 }
 
-/// Puts texts behind what waits, each with a line feed.
+/// Buffers texts, each with a line feed.
 pub(crate) fn put_texts<W: Sink>(
     outbox: &mut Outbox,
     sink: &mut W,
     texts: &[Text],
 ) -> Result<(), Failed>
     requires { length outbox.old < 65536 }
-    ensures bytes { Passes result outbox.old outbox.new (W.written sink.old) (W.written sink.new)
-        (flat_map ended texts.now) }
-    ensures room { OnOk result (length outbox.new < 65536) }
-    ensures cause { HasCause (W.faults sink.old) (W.faults sink.new) result }
+    ensures { Puts W.written W.faults result outbox.old outbox.new sink.old sink.new (flat_map ended texts.now) }
 {
     for text in texts {
         put_text(outbox, sink, text)?;
@@ -86,25 +73,27 @@ pub(crate) fn put_texts<W: Sink>(
     Ok(())
 }
 
-fn put_parts<W: Sink>(outbox: &mut Outbox, sink: &mut W, parts: &[Part<'_>]) -> Result<(), Failed>
+fn put_parts<W: Sink>(
+    outbox: &mut Outbox,
+    sink: &mut W,
+    tokens: &[ReplyToken<'_>],
+) -> Result<(), Failed>
     requires { length outbox.old < 65536 }
-    ensures bytes { Passes result outbox.old outbox.new (W.written sink.old) (W.written sink.new)
-        (spaced_parts parts.now) }
-    ensures room { OnOk result (length outbox.new < 65536) }
-    ensures cause { HasCause (W.faults sink.old) (W.faults sink.new) result }
+    ensures { Puts W.written W.faults result outbox.old outbox.new sink.old sink.new (spaced_parts tokens.now) }
 {
-    for part in parts {
-        put_spaced(outbox, sink, part)?;
+    for token in tokens {
+        put_spaced(outbox, sink, token)?;
     }
     Ok(())
 }
 
-fn put_spaced<W: Sink>(outbox: &mut Outbox, sink: &mut W, part: &Part<'_>) -> Result<(), Failed>
-    ensures bytes { Passes result outbox.old outbox.new (W.written sink.old) (W.written sink.new)
-        (spaced_part part.now) }
-    ensures room { OnOk result (length outbox.new < 65536) }
-    ensures cause { HasCause (W.faults sink.old) (W.faults sink.new) result }
+fn put_spaced<W: Sink>(
+    outbox: &mut Outbox,
+    sink: &mut W,
+    token: &ReplyToken<'_>,
+) -> Result<(), Failed>
+    ensures { Puts W.written W.faults result outbox.old outbox.new sink.old sink.new (spaced_part token.now) }
 {
     outbox.add(sink, b" ")?;
-    put_part(outbox, sink, part)
+    put_token(outbox, sink, token)
 }

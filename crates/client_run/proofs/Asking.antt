@@ -73,6 +73,12 @@ module _ {S : Type 0} (answers : Relation S) (old : S) where
   says_bad [] kind place some refused = absurd (some refl)
   says_bad (b ∷ line) kind place some refused = inr (inr (inl (inl refused, refl)))
 
+  -- for want of memory
+  pub says_memory : (line : List ℕ) → line ≢ [] → (Asks line Quit → ⊥)
+      → AnswersLine answers old line (Some reply.Memory) old
+  says_memory [] some stays = absurd (some refl)
+  says_memory (b ∷ line) some stays = inr (inr (inr (refl, stays, refl)))
+
   says_bye : (line : List ℕ) → Asks line Quit → AnswersLine answers old line (Some reply.Bye) old
   says_bye [] is = absurd (asks_nothing Quit is)
   says_bye (b ∷ line) is = inr (inl (is, refl, refl))

@@ -9,17 +9,18 @@ use Rattle.std.specs.List.{All, slice_get}
 use Rattle.client_run.proofs.Cutting.{cut_here, cut_behind}
 use Rattle.client_run.proofs.Steps.{single, exchange, lines_more, texts_more, together_more, spelled_more, answers_more}
 use Rattle.client_run.specs.Closing.{Tears, Closes}
-use Rattle.client_run.specs.Reading.{Held, Finds}
-use Rattle.client_run.specs.Serving.{Start, Point, point, SoFar, Served, Stays, IsEnded}
+use Rattle.client_run.specs.Reading.{ReaderState, Finds}
+use Rattle.client_run.specs.Serving.{Start, Point, point, SoFar, WholeSession, Stays, IsEnded}
 use Rattle.client_run.specs.declared.find.Find.TheVariants.{More}
 use Rattle.client_run.specs.Sessions.{Relation, AnswersLine, Exchange, lines_of, texts_of, Serves}
-use Rattle.transcript.specs.Lines.{Line, ended, last, content, with_feed, IsLine, Begins, IsPastLimits, most_lines}
+use Rattle.transcript.specs.Lines.{Line, ended, last, content, with_feed, IsLine, BeginsWithLines, IsPastLimits}
 use Rattle.transcript.specs.Texts.{text_of}
 use Rattle.transcript.specs.Transcript.{Ends, AllStay, LastQuits, AsksQuit, IsOver, text_of_answer, together}
 use Rattle.transcript.specs.declared.reply.Reply.{Reply}
 use Rattle.transcript.specs.declared.reply.Reply.TheVariants as reply
 use Rattle.transcript.specs.declared.session_end.SessionEnd.{SessionEnd}
 use Rattle.transcript.specs.declared.session_end.SessionEnd.TheVariants as end
+use Rattle.transcript.specs.declared.limits.TheConstants.{MAX_LINES}
 
 all_lines : (lines : List Line) → All Stays lines → All IsLine lines
 all_lines lines stay k d lt = (stay k d lt).is_line
@@ -39,7 +40,7 @@ OnlyLast lines behind over =
     (k : ℕ) (bytes : List ℕ) → slice_get lines k ≡ Some (last bytes) → (k + 1 ≡ length lines) × (behind ≡ []) ×
     (0 < length bytes) × IsTrue over
 
--- a line that may stand last before these bytes
+-- a line that may be the last before these bytes
 abbrev pub MayEnd : Line → List ℕ → Bool → Type 0
 MayEnd (ended bytes) behind over = Unit {0}
 MayEnd (last bytes) behind over = (behind ≡ []) × (0 < length bytes) × IsTrue over
@@ -59,7 +60,7 @@ only_last (first ∷ lines) line behind over stay may (suc k) bytes' is =
     (omega (arith, at), none, some, told)
 
 module _ {S : Type 0} (answers : Relation S) (first : Start S) (s : S) (l w : Option (List ℕ)) (waits : List ℕ)
-    (h : Held) (count : ℕ)
+    (h : ReaderState) (count : ℕ)
     (so : SoFar answers first (point s l w waits h) count) where
   abbrev lines : List Line
   lines = lines_of so.exchanges
@@ -74,10 +75,10 @@ module _ {S : Type 0} (answers : Relation S) (first : Start S) (s : S) (l w : Op
   whole bytes = sym (append_assoc so.output waits bytes) ∙ ap (λ (x : List ℕ). x ++ bytes) so.sent
 
   -- with no line more
-  here : count ≤ most_lines → (w' : Option (List ℕ)) (waits' more : List ℕ) (h' : Held) (how : SessionEnd) →
+  here : count ≤ MAX_LINES → (w' : Option (List ℕ)) (waits' more : List ℕ) (h' : ReaderState) (how : SessionEnd) →
       Appends w w' more → Ends how lines h.pending texts (so.output ++ more)
       → (how ≡ end.End → IsTrue h.over) → (how ≡ end.ReadFault → IsFalse h.over) →
-      Served answers first (point s l w' waits' h') how
+      WholeSession answers first (point s l w' waits' h') how
   here few w' waits' more h' how went ends at_end at_fault = record {
     input = so.input;
     output = so.output ++ more;
@@ -104,18 +105,18 @@ module _ {S : Type 0} (answers : Relation S) (first : Start S) (s : S) (l w : Op
     };
   }
 
-  pub at_write_fault : count ≤ most_lines → (w' : Option (List ℕ)) (waits' : List ℕ) (h' : Held) →
-      Tears waits w w' [] → Served answers first (point s l w' waits' h') end.WriteFault
+  pub at_write_fault : count ≤ MAX_LINES → (w' : Option (List ℕ)) (waits' : List ℕ) (h' : ReaderState) →
+      Tears waits w w' [] → WholeSession answers first (point s l w' waits' h') end.WriteFault
   at_write_fault few w' waits' h' (n, went, some) =
       here few w' waits' (take n (waits ++ [])) h' end.WriteFault went
       (inl (inl (all_stay lines so.stay), cut_here texts so.output waits so.sent so.room n some))
       (λ is. absurd (cc)) (λ is. absurd (cc))
 
-  pub at_end : count ≤ most_lines → (w' : Option (List ℕ)) (waits' : List ℕ) (h' : Held) (how : SessionEnd) →
+  pub at_end : count ≤ MAX_LINES → (w' : Option (List ℕ)) (waits' : List ℕ) (h' : ReaderState) (how : SessionEnd) →
       h.pending ≡ [] → h.over ≡ Bool.true → Closes end.End how waits w w' [] →
-      Served answers first (point s l w' waits' h') how
+      WholeSession answers first (point s l w' waits' h') how
   at_end few w' waits' h' how none over (inl (is, went)) =
-      subst (λ (how : SessionEnd). Served answers first (point s l w' waits' h') how) (sym is)
+      subst (λ (how : SessionEnd). WholeSession answers first (point s l w' waits' h') how) (sym is)
       (here few w' waits' (waits ++ []) h' end.End went (
         all_stay lines so.stay,
         none,
@@ -123,11 +124,11 @@ module _ {S : Type 0} (answers : Relation S) (first : Start S) (s : S) (l w : Op
             append-nil (together texts),
       ) (λ same. over) (λ same. absurd (cc)))
   at_end few w' waits' h' how none over (inr (is, tears)) =
-      subst (λ (how : SessionEnd). Served answers first (point s l w' waits' h') how) (sym is)
+      subst (λ (how : SessionEnd). WholeSession answers first (point s l w' waits' h') how) (sym is)
       (at_write_fault few w' waits' h' tears)
 
-  pub at_read_fault : count ≤ most_lines → (h' : Held) → waits ≡ [] → Finds h More →
-      Served answers first (point s l w waits h') end.ReadFault
+  pub at_read_fault : count ≤ MAX_LINES → (h' : ReaderState) → waits ≡ [] → Finds h More →
+      WholeSession answers first (point s l w waits h') end.ReadFault
   at_read_fault few h' none (clean, fits, going) =
       here few w waits [] h' end.ReadFault (Appends-nil w) (all_stay lines so.stay, clean, fits, output)
       (λ is. absurd (cc)) (λ is. going)
@@ -135,18 +136,18 @@ module _ {S : Type 0} (answers : Relation S) (first : Start S) (s : S) (l w : Op
       output : so.output ++ [] ≡ together texts
       output = ap (λ (x : List ℕ). so.output ++ x) (sym none) ∙ so.sent
 
-  pub at_long : count ≤ most_lines → (w' : Option (List ℕ)) (waits' : List ℕ) (h' : Held) (how : SessionEnd) →
+  pub at_long : count ≤ MAX_LINES → (w' : Option (List ℕ)) (waits' : List ℕ) (h' : ReaderState) (how : SessionEnd) →
       IsPastLimits lines h.pending → Closes end.Long how waits w w' (text_of reply.Long)
-      → Served answers first (point s l w' waits' h') how
+      → WholeSession answers first (point s l w' waits' h') how
   at_long few w' waits' h' how past (inl (is, went)) =
-      subst (λ (how : SessionEnd). Served answers first (point s l w' waits' h') how) (sym is)
+      subst (λ (how : SessionEnd). WholeSession answers first (point s l w' waits' h') how) (sym is)
       (here few w' waits' (waits ++ text_of reply.Long) h' end.Long went (
         all_stay lines so.stay,
         past,
         whole (text_of reply.Long),
       ) (λ same. absurd (cc)) (λ same. absurd (cc)))
   at_long few w' waits' h' how past (inr (is, (n, went, some))) =
-      subst (λ (how : SessionEnd). Served answers first (point s l w' waits' h') how) (sym is)
+      subst (λ (how : SessionEnd). WholeSession answers first (point s l w' waits' h') how) (sym is)
       (here few w' waits' (take n (waits ++ text_of reply.Long)) h' end.WriteFault went
       (inr (
         all_stay lines so.stay,
@@ -157,12 +158,12 @@ module _ {S : Type 0} (answers : Relation S) (first : Start S) (s : S) (l w : Op
       (λ same. absurd (cc)) (λ same. absurd (cc)))
 
   -- more lines than a session may have
-  pub one_too_many : most_lines ≤ count → count ≤ most_lines → 0 < length h.pending → IsPastLimits lines h.pending
+  pub one_too_many : MAX_LINES ≤ count → count ≤ MAX_LINES → 0 < length h.pending → IsPastLimits lines h.pending
   one_too_many most few some = inr (omega (arith, counted, most, few), some)
 
   -- with one line more
-  module _ (fits : count < most_lines) (s' : S) (line : Line) (answer : Option Reply) (rest : List ℕ)
-      (is_line : IsLine line) (may : MayEnd line rest h.over) (stands : h.pending ≡ with_feed line ++ rest)
+  module _ (fits : count < MAX_LINES) (s' : S) (line : Line) (answer : Option Reply) (rest : List ℕ)
+      (is_line : IsLine line) (may : MayEnd line rest h.over) (spelled_so : h.pending ≡ with_feed line ++ rest)
       (is : AnswersLine answers s (content line) answer s') where
     abbrev text : List ℕ
     text = text_of_answer answer
@@ -170,9 +171,9 @@ module _ {S : Type 0} (answers : Relation S) (first : Start S) (s : S) (l w : Op
     last_of_all : OnlyLast (lines ++ line ∷ []) rest h.over
     last_of_all = only_last lines line rest h.over so.stay may
 
-    begins : Begins so.input (lines ++ line ∷ []) rest
+    begins : BeginsWithLines so.input (lines ++ line ∷ []) rest
     begins = record {
-      spelled = spelled_more so.input lines line h.pending rest so.spelled stands;
+      spelled = spelled_more so.input lines line h.pending rest so.spelled spelled_so;
       each = All-append IsLine lines (line ∷ []) (all_lines lines so.stay) (single IsLine line is_line);
       few = omega (arith, counted, fits, length-append lines (line ∷ []));
       only_last = λ k bytes is. let (at, none, some, told) = last_of_all k bytes is in (at, none, some);
@@ -186,9 +187,9 @@ module _ {S : Type 0} (answers : Relation S) (first : Start S) (s : S) (l w : Op
       at_fault = λ is. absurd (no_fault is);
     }
 
-    behind : (w' : Option (List ℕ)) (waits' more : List ℕ) (h' : Held) (how : SessionEnd) → Appends w w' more →
+    behind : (w' : Option (List ℕ)) (waits' more : List ℕ) (h' : ReaderState) (how : SessionEnd) → Appends w w' more →
         Ends how (lines ++ line ∷ []) rest (texts ++ text ∷ []) (so.output ++ more)
-        → how ≢ end.ReadFault → (how ≡ end.End → IsTrue h.over) → Served answers first (point s' l w' waits' h') how
+        → how ≢ end.ReadFault → (how ≡ end.End → IsTrue h.over) → WholeSession answers first (point s' l w' waits' h') how
     behind w' waits' more h' how went ends no_fault at_end = record {
       input = so.input;
       output = so.output ++ more;
@@ -199,7 +200,7 @@ module _ {S : Type 0} (answers : Relation S) (first : Start S) (s : S) (l w : Op
       serves = record {
         exchanges = so.exchanges ++ exchange line answer ∷ [];
         behind = rest;
-        lines = subst (λ (ls : List Line). Begins so.input ls rest) (sym (lines_more so.exchanges line answer))
+        lines = subst (λ (ls : List Line). BeginsWithLines so.input ls rest) (sym (lines_more so.exchanges line answer))
             begins;
         is_over = subst (λ (ls : List Line). IsOver how ls h.over) (sym (lines_more so.exchanges line answer))
             (is_over how no_fault at_end);
@@ -221,34 +222,34 @@ module _ {S : Type 0} (answers : Relation S) (first : Start S) (s : S) (l w : Op
     quits : AsksQuit line → LastQuits (lines ++ line ∷ [])
     quits asks = (lines, line, refl, all_stay lines so.stay, asks)
 
-    pub behind_quit : (w' : Option (List ℕ)) (waits' : List ℕ) (h' : Held) → AsksQuit line →
-        Appends w w' (waits ++ text) → Served answers first (point s' l w' waits' h') end.Quit
+    pub behind_quit : (w' : Option (List ℕ)) (waits' : List ℕ) (h' : ReaderState) → AsksQuit line →
+        Appends w w' (waits ++ text) → WholeSession answers first (point s' l w' waits' h') end.Quit
     behind_quit w' waits' h' asks went =
         behind w' waits' (waits ++ text) h' end.Quit went (quits asks, all_out) (λ same. absurd (cc))
         (λ same. absurd (cc))
 
     cut : (AllStay (lines ++ line ∷ []) ⊎ LastQuits (lines ++ line ∷ [])) → (w' : Option (List ℕ)) (waits' : List ℕ)
-        (h' : Held) → Tears waits w w' text → Served answers first (point s' l w' waits' h') end.WriteFault
+        (h' : ReaderState) → Tears waits w w' text → WholeSession answers first (point s' l w' waits' h') end.WriteFault
     cut stay w' waits' h' (n, went, some) =
         behind w' waits' (take n (waits ++ text)) h' end.WriteFault went
         (inl (stay, cut_behind texts so.output waits so.sent so.room text n some)) (λ same. absurd (cc))
         (λ same. absurd (cc))
 
-    pub behind_write_fault : (w' : Option (List ℕ)) (waits' : List ℕ) (h' : Held) →
-        ((AsksQuit line → ⊥) ⊎ AsksQuit line) → Tears waits w w' text → Served answers first (point s' l w' waits' h')
+    pub behind_write_fault : (w' : Option (List ℕ)) (waits' : List ℕ) (h' : ReaderState) →
+        ((AsksQuit line → ⊥) ⊎ AsksQuit line) → Tears waits w w' text → WholeSession answers first (point s' l w' waits' h')
         end.WriteFault
     behind_write_fault w' waits' h' (inl stays) tears = cut (inl (more_stay stays)) w' waits' h' tears
     behind_write_fault w' waits' h' (inr asks) tears = cut (inr (quits asks)) w' waits' h' tears
 
-    pub behind_last : (w' : Option (List ℕ)) (waits' : List ℕ) (h' : Held) (how : SessionEnd) → (AsksQuit line → ⊥) →
+    pub behind_last : (w' : Option (List ℕ)) (waits' : List ℕ) (h' : ReaderState) (how : SessionEnd) → (AsksQuit line → ⊥) →
         rest ≡ [] → h.over ≡ Bool.true → Closes end.End how waits w w' text →
-        Served answers first (point s' l w' waits' h') how
+        WholeSession answers first (point s' l w' waits' h') how
     behind_last w' waits' h' how stays none over (inl (is_end, went)) =
-        subst (λ (how : SessionEnd). Served answers first (point s' l w' waits' h') how) (sym is_end)
+        subst (λ (how : SessionEnd). WholeSession answers first (point s' l w' waits' h') how) (sym is_end)
         (behind w' waits' (waits ++ text) h' end.End went (more_stay stays, none, all_out) (λ same. absurd (cc))
         (λ same. over))
     behind_last w' waits' h' how stays none over (inr (is_fault, tears)) =
-        subst (λ (how : SessionEnd). Served answers first (point s' l w' waits' h') how) (sym is_fault)
+        subst (λ (how : SessionEnd). WholeSession answers first (point s' l w' waits' h') how) (sym is_fault)
         (behind_write_fault w' waits' h' (inl stays) tears)
 
 -- what a session did, from outside
@@ -285,7 +286,7 @@ no_memory answers s l w = (
 
 -- a whole session, as its parts
 pub parts : {S : Type 0} (answers : Relation S) (first : Start S) (now : Point S) (how : SessionEnd) →
-    Served answers first now how
+    WholeSession answers first now how
     → Did answers first.service now.service first.left now.left first.written now.written how
 parts answers first now how served = (
   served.input,

@@ -7,7 +7,7 @@ use Rattle.std.proofs.lemmas.List.Elements.{All-append}
 use Rattle.std.specs.List.{flat_map, All}
 use Rattle.client_run.proofs.Moving.{still_room}
 use Rattle.client_run.specs.Closing.{Moves}
-use Rattle.client_run.specs.Reading.{Held, Gathers}
+use Rattle.client_run.specs.Reading.{ReaderState, Gathers}
 use Rattle.client_run.specs.Serving.{Start, start, point, SoFar, Stays}
 use Rattle.client_run.specs.Sessions.{Relation, AnswersLine, AnswersLines, Exchange, lines_of, texts_of}
 use Rattle.transcript.specs.Lines.{Line, content, with_feed}
@@ -81,9 +81,9 @@ module _ {S : Type 0} (answers : Relation S) where
     at_end = λ is. absurd (cc);
   }
 
-  module _ (first : Start S) (s : S) (l w : Option (List ℕ)) (waits : List ℕ) (h : Held) (count : ℕ)
+  module _ (first : Start S) (s : S) (l w : Option (List ℕ)) (waits : List ℕ) (h : ReaderState) (count : ℕ)
       (so : SoFar answers first (point s l w waits h) count) where
-    pub gathered : (l' : Option (List ℕ)) (h' : Held) → Gathers h h' l l' →
+    pub gathered : (l' : Option (List ℕ)) (h' : ReaderState) → Gathers h h' l l' →
         SoFar answers first (point s l' w waits h') count
     gathered l' h' g = record {
       exchanges = so.exchanges;
@@ -120,7 +120,7 @@ module _ {S : Type 0} (answers : Relation S) where
       at_end = so.at_end;
     }
 
-    pub line_goes : (s' : S) (w' : Option (List ℕ)) (waits' : List ℕ) (h' : Held) (line : Line)
+    pub line_goes : (s' : S) (w' : Option (List ℕ)) (waits' : List ℕ) (h' : ReaderState) (line : Line)
         (answer : Option Reply) → Stays line → h.pending ≡ with_feed line ++ h'.pending → h'.over ≡ h.over
         → AnswersLine answers s (content line) answer s' → Moves waits waits' w w' (text_of_answer answer) →
         length waits' < most_waiting → SoFar answers first (point s' l w' waits' h') (count + 1)

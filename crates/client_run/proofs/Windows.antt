@@ -5,10 +5,11 @@ use Rattle.std.proofs.lemmas.List.{take-append-drop, length-take-le, drop-drop, 
 use Rattle.std.proofs.lemmas.List.{take-take, take-append-le}
 use Rattle.std.proofs.Math.Seq.{take-append-add}
 use Rattle.memchr.specs.Find.{IsFirstByte, is_byte}
-use Rattle.client_run.specs.Reading.{Held, HasNoFeedBefore, FindsFeed}
-use Rattle.transcript.specs.Lines.{HasNoFeed, IsLong, longest_line}
+use Rattle.client_run.specs.Reading.{ReaderState, HasNoFeedBefore, FindsFeed}
+use Rattle.transcript.specs.Lines.{HasNoFeed, IsLong}
+use Rattle.transcript.specs.declared.limits.TheConstants.{LONGEST_LINE}
 
-pub same_held : (a b : List ℕ) (over : Bool) → a ≡ b → ◌≡◌ {A = Held} (record { pending = a; over = over })
+pub same_held : (a b : List ℕ) (over : Bool) → a ≡ b → ◌≡◌ {A = ReaderState} (record { pending = a; over = over })
     (record { pending = b; over = over })
 same_held a b over p = rw p refl
 
@@ -79,7 +80,7 @@ finds_feed bytes count (lt, clean, at) = (lt, no_feed bytes count (omega arith) 
 pub all_clean : (bytes : List ℕ) → HasNoFeedBefore bytes (length bytes) → HasNoFeed bytes
 all_clean bytes clean k d lt is = clean k lt (get_or_default bytes k 0 d lt ∙ is)
 
-pub is_long : (bytes : List ℕ) (count : ℕ) → FindsFeed bytes (Some count) → longest_line < count → IsLong bytes
+pub is_long : (bytes : List ℕ) (count : ℕ) → FindsFeed bytes (Some count) → LONGEST_LINE < count → IsLong bytes
 is_long bytes count (lt, clean, at) long = record {
   beginning = take count bytes;
   rest = drop count bytes;
@@ -88,7 +89,7 @@ is_long bytes count (lt, clean, at) long = record {
   too_long = omega (arith, long, lt, length-take count bytes);
 }
 
--- what was read stands behind what stood there
+-- what was read is behind what was there
 module _ (to all : ℕ) (items buffer new post more : List ℕ) (same : buffer ≡ items) (le : to ≤ length items) where
   length_to : length (take to buffer) ≡ to
   length_to = ap (λ (xs : List ℕ). length (take to xs)) same ∙ length-take-le to items le

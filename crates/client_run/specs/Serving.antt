@@ -3,26 +3,30 @@ use Rattle.std.specs.Prelude.{ℕ, ◌≡◌, ◌≢◌, ◌<◌, ◌+◌, ◌�
 use Rattle.std.specs.List.{flat_map}
 use Rattle.std.specs.Io.KnownBytes.{Consumes, Appends, IsAtEnd}
 use Rattle.client_run.specs.Closing.{Moves, Tears}
-use Rattle.client_run.specs.Reading.{Held, Finds}
+use Rattle.client_run.specs.Reading.{ReaderState, Finds}
 use Rattle.client_run.specs.Sessions.{Relation, AnswersLine, AnswersLines, Exchange, lines_of, texts_of, Serves}
 use Rattle.client_run.specs.declared.find.Find.{Find}
 use Rattle.client_run.specs.declared.find.Find.TheVariants.{More}
 use Rattle.transcript.specs.Commands.{Asks}
-use Rattle.transcript.specs.Lines.{Line, ended, last, with_feed, IsLine, most_lines}
+use Rattle.transcript.specs.Lines.{Line, ended, last, with_feed, IsLine}
 use Rattle.transcript.specs.Transcript.{AsksQuit, text_of_answer, together, most_waiting}
 use Rattle.transcript.specs.declared.command.Command.TheVariants.{Quit}
 use Rattle.transcript.specs.declared.reply.Reply.{Reply}
 use Rattle.transcript.specs.declared.session_end.SessionEnd.{SessionEnd}
 use Rattle.transcript.specs.declared.session_end.SessionEnd.TheVariants as end
+use Rattle.transcript.specs.declared.limits.TheConstants.{MAX_LINES}
 
 -- the next line was found, or a fault ends the session: before a read all was sent, and more bytes were wanted
-abbrev pub FindsNext : Result Find SessionEnd → Held → List ℕ → List ℕ → Option (List ℕ) → Option (List ℕ) → Type 0
+abbrev pub FindsNext : Result Find SessionEnd → ReaderState → List ℕ → List ℕ → Option (List ℕ) → Option (List ℕ) → Type 0
 FindsNext (Ok found) held waits waits' written written' =
     Finds held found × (found ≢ More) × Moves waits waits' written written' []
 FindsNext (Err end.ReadFault) held waits waits' written written' =
     Finds held More × (waits' ≡ []) × Moves waits waits' written written' []
 FindsNext (Err end.WriteFault) held waits waits' written written' = Tears waits written written' []
-FindsNext (Err _) held waits waits' written written' = ⊥
+FindsNext (Err end.Quit) held waits waits' written written' = ⊥
+FindsNext (Err end.End) held waits waits' written written' = ⊥
+FindsNext (Err end.Long) held waits waits' written written' = ⊥
+FindsNext (Err end.Memory) held waits waits' written written' = ⊥
 
 -- a line was answered: the session goes on, or the line asked to quit, or a write fault ends it
 abbrev pub AnswersOne : {S : Type 0} → Relation S → S → S → List ℕ → Result (Unit {0}) SessionEnd → List ℕ → List ℕ →
@@ -36,7 +40,10 @@ AnswersOne answers old new line (Err end.Quit) waits waits' written written' =
 AnswersOne answers old new line (Err end.WriteFault) waits waits' written written' =
     (answer : Option Reply) × AnswersLine answers old line answer new ×
     Tears waits written written' (text_of_answer answer) × ((Asks line Quit → ⊥) ⊎ Asks line Quit)
-AnswersOne answers old new line (Err _) waits waits' written written' = ⊥
+AnswersOne answers old new line (Err end.End) waits waits' written written' = ⊥
+AnswersOne answers old new line (Err end.Long) waits waits' written written' = ⊥
+AnswersOne answers old new line (Err end.ReadFault) waits waits' written written' = ⊥
+AnswersOne answers old new line (Err end.Memory) waits waits' written written' = ⊥
 
 -- where a session begins: its service, what its source has and what its sink was given
 pub record Start (S : Type 0) : Type 0 where
@@ -44,18 +51,18 @@ pub record Start (S : Type 0) : Type 0 where
   pub left : Option (List ℕ)
   pub written : Option (List ℕ)
 
--- where it stands: also what waits to be sent, and what the reader holds
+-- a session between two lines: also what waits to be sent, and what the reader holds
 pub record Point (S : Type 0) : Type 0 where
   pub service : S
   pub left : Option (List ℕ)
   pub written : Option (List ℕ)
   pub waits : List ℕ
-  pub held : Held
+  pub held : ReaderState
 
 abbrev pub start : {S : Type 0} → S → Option (List ℕ) → Option (List ℕ) → Start S
 start service left written = record { service = service; left = left; written = written }
 
-abbrev pub point : {S : Type 0} → S → Option (List ℕ) → Option (List ℕ) → List ℕ → Held → Point S
+abbrev pub point : {S : Type 0} → S → Option (List ℕ) → Option (List ℕ) → List ℕ → ReaderState → Point S
 point service left written waits held = record { service = service; left = left; written = written; waits = waits; held = held }
 
 abbrev pub IsEnded : Line → Type 0
@@ -84,7 +91,7 @@ pub record SoFar {S : Type 0} (answers : Relation S) (first : Start S) (now : Po
   pub at_end : IsTrue now.held.over → IsAtEnd now.left
 
 -- a whole session, and whether its source told its end
-pub record Served {S : Type 0} (answers : Relation S) (first : Start S) (now : Point S) (how : SessionEnd) : Type 0 where
+pub record WholeSession {S : Type 0} (answers : Relation S) (first : Start S) (now : Point S) (how : SessionEnd) : Type 0 where
   pub input : List ℕ
   pub output : List ℕ
   pub came : Consumes first.left now.left input
@@ -95,10 +102,10 @@ pub record Served {S : Type 0} (answers : Relation S) (first : Start S) (now : P
 
 -- one line more was answered, or the session ended
 abbrev pub Stepped : {S : Type 0} → Relation S → Start S → Result (Unit {0}) SessionEnd → Point S → ℕ → Type 0
-Stepped answers first (Ok done) now count = (count < most_lines) × SoFar answers first now (count + 1)
-Stepped answers first (Err how) now count = Served answers first now how
+Stepped answers first (Ok done) now count = (count < MAX_LINES) × SoFar answers first now (count + 1)
+Stepped answers first (Err how) now count = WholeSession answers first now how
 
--- a step takes a session that stands there a line further, or ends it
+-- a step takes a session one line further, or ends it
 abbrev pub Steps : {S : Type 0} → Relation S → Result (Unit {0}) SessionEnd → Point S → Point S → ℕ → Type 0
 Steps {S} answers result old new count =
     (first : Start S) → SoFar answers first old count → Stepped answers first result new count

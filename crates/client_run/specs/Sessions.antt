@@ -1,7 +1,7 @@
 -- What a session does with any service.
 use Rattle.std.specs.Prelude.{ℕ, ◌≡◌, ◌≢◌, ◌⊎◌, Bool, List, [], ◌∷◌, map, Option, Some, None}
 use Rattle.transcript.specs.Commands.{Asks}
-use Rattle.transcript.specs.Lines.{Line, content, Begins}
+use Rattle.transcript.specs.Lines.{Line, content, BeginsWithLines}
 use Rattle.transcript.specs.Refusals.{Refuses, IsLater}
 use Rattle.transcript.specs.Transcript.{Ends, IsOver, text_of_answer}
 use Rattle.transcript.specs.declared.command.Command.{Command}
@@ -15,7 +15,7 @@ abbrev pub Relation : Type 0 → Type 1
 Relation S = S → Command → Reply → S → Type 0
 
 -- how a line is answered: an empty one isn't; `quit` is without the service, and so is a line that is refused or comes
--- later; all else is asked of the service, unless memory is wanting before
+-- later; all else is asked of the service, unless memory is wanting before: `quit` never lacks it
 abbrev pub AnswersLine : {S : Type 0} → Relation S → S → List ℕ → Option Reply → S → Type 0
 AnswersLine answers old [] answer new = (answer ≡ None) × (new ≡ old)
 AnswersLine answers old line None new = ⊥
@@ -23,7 +23,7 @@ AnswersLine answers old line (Some answer) new =
     ((asked : Command) × Asks line asked × (asked ≢ Quit) × answers old asked answer new)
     ⊎ (Asks line Quit × (answer ≡ reply.Bye) × (new ≡ old))
     ⊎ ((Refuses line answer ⊎ IsLater line answer) × (new ≡ old))
-    ⊎ ((answer ≡ reply.Memory) × (new ≡ old))
+    ⊎ ((answer ≡ reply.Memory) × (Asks line Quit → ⊥) × (new ≡ old))
 
 -- a line that was served, and its reply
 pub record Exchange : Type 0 where
@@ -48,7 +48,7 @@ pub record Serves {S : Type 0} (answers : Relation S) (old new : S) (input outpu
     (over : Bool) : Type 0 where
   pub exchanges : List Exchange
   pub behind : List ℕ
-  pub lines : Begins input (lines_of exchanges) behind
+  pub lines : BeginsWithLines input (lines_of exchanges) behind
   pub is_over : IsOver how (lines_of exchanges) over
   pub replies : AnswersLines answers old exchanges new
   pub ends : Ends how (lines_of exchanges) behind (texts_of exchanges) output

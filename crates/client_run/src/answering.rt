@@ -1,4 +1,5 @@
-// One line, answered.
+//! The answer to one line.
+
 ghost use Rattle.std.specs.Prelude.{◌≡◌, ◌↔◌, ◌<◌, length, IsTrue, Err, OnOk};
 ghost use Rattle.transcript.specs.Commands.{Asks};
 ghost use Rattle.transcript.specs.Lines.{without_return};
@@ -32,7 +33,7 @@ fn asks_quit(line: &[u8]) -> bool
     line == b"quit".as_slice()
 }
 
-// How a line that doesn't ask to quit is answered: an empty one isn't.
+// The reply to a line that doesn't ask to quit, none to an empty one.
 fn answer<R, S: Service>(rt: &R, alloc: Global, service: &mut S, line: &[u8]) -> Option<Reply>
     requires stays { Asks line.now Quit → ⊥ }
     requires ready { S.ready service.old }
@@ -48,7 +49,7 @@ fn answer<R, S: Service>(rt: &R, alloc: Global, service: &mut S, line: &[u8]) ->
     }
 }
 
-/// Answers a line. One that asks to quit ends the session, with all replies sent.
+/// Answers a line. `quit` ends the session, with all replies sent.
 pub fn answer_line<R, S: Service, W: Sink>(
     rt: &R,
     alloc: Global,

@@ -1,4 +1,5 @@
-// Replies on their way out, and the ends of a session.
+//! Replies to a sink, and the ends of a session.
+
 ghost use Rattle.std.specs.Prelude.{◌≡◌, ◌≢◌, ◌<◌, [], length, Err, OnOk};
 ghost use Rattle.transcript.specs.Texts.{text_of};
 ghost use Rattle.transcript.specs.Transcript.{most_waiting};
@@ -21,7 +22,7 @@ pub fn send<W: Sink>(outbox: &mut Outbox, sink: &mut W) -> Result<(), SessionEnd
     }
 }
 
-/// Puts a reply behind what waits.
+/// Buffers a reply.
 pub fn say<W: Sink>(outbox: &mut Outbox, sink: &mut W, reply: &Reply) -> Result<(), SessionEnd>
     ensures says { Says result outbox.old outbox.new (W.written sink.old) (W.written sink.new) (text_of reply.now) }
     ensures room { OnOk result (length outbox.new < most_waiting) }
@@ -33,7 +34,7 @@ pub fn say<W: Sink>(outbox: &mut Outbox, sink: &mut W, reply: &Reply) -> Result<
     }
 }
 
-/// Ends a session behind what waits.
+/// Sends what waits, and returns how the session ends.
 pub fn close<W: Sink>(outbox: &mut Outbox, sink: &mut W, how: SessionEnd) -> SessionEnd
     requires { how ≢ WriteFault }
     ensures closes { Closes how result outbox.old (W.written sink.old) (W.written sink.new) [] }
@@ -45,7 +46,7 @@ pub fn close<W: Sink>(outbox: &mut Outbox, sink: &mut W, how: SessionEnd) -> Ses
     }
 }
 
-/// Ends a session with a last reply.
+/// Sends what waits and a last reply, and returns how the session ends.
 pub fn close_with<W: Sink>(
     outbox: &mut Outbox,
     sink: &mut W,

@@ -1,24 +1,22 @@
-// Lines of a source, in pieces of any size.
+//! Lines of a source, in pieces of any size.
+
 ghost use Rattle.std.specs.Prelude.{◌≡◌, ◌≤◌, ◌<◌, ◌+◌, ◌-◌, [], false, length, take, drop, IfOk, OnErr, None, vec_len};
 ghost use Rattle.std.specs.Io.KnownBytes.{Keeps};
 ghost use Rattle.disk_model.specs.Causes.{HasCause};
 ghost use Rattle.client_run.specs.Reading.{FindsFeed, Finds, Fills, ReadsBehind};
-ghost use Rattle.transcript.specs.Lines.{longest_line};
 
 use crate::find::Find;
 use disk_model::{Failed, Source};
 use memchr::memchr;
 use std::alloc::{AllocError, Global};
 use std::marker::Model;
+use transcript::LONGEST_LINE;
 
-/// The greatest length of a line before its line feed.
-const LONGEST_LINE: usize = 4_194_304;
+/// The bytes of the buffer: a longest line and 64 KiB more, so that a read has room behind a part of a line.
+const SIZE: usize = LONGEST_LINE + 65_536;
 
-/// A longest line and 65,536 bytes more.
-const SIZE: usize = 4_259_840;
-
-/// Reads lines. They lie in its buffer, so that their bytes aren't copied; only a line that doesn't fit behind those
-/// before it is moved to the front, once. Contracts see what was read and not taken, and whether the source is over.
+/// Reads lines, and lends them from its buffer without a copy. It moves a line only where this doesn't fit behind those
+/// before it: once, to the front. Contracts see the bytes that were read and not taken, and whether the source is over.
 #[derive(Drop)]
 pub struct LineReader {
     buffer: Vec<u8>,
@@ -30,14 +28,14 @@ pub struct LineReader {
 
 impl Model for LineReader {
     ghost use Rattle.std.specs.Prelude.{◌≡◌, ◌≤◌, ◌-◌, take, drop, vec_len};
-    ghost use Rattle.client_run.specs.Reading.{Held, HasNoFeedBefore, most_held};
+    ghost use Rattle.client_run.specs.Reading.{ReaderState, HasNoFeedBefore, most_held};
 
-    ghost Value = { Held };
+    ghost Value = { ReaderState };
 
     ghost view = { λ r. record { pending = drop r.from (take r.to r.buffer.items); over = r.over } };
 
-    ghost invariant = { λ r. (vec_len r.buffer ≡ most_held) × (r.from ≤ r.to) × (r.to ≤ most_held) × (r.seen ≤ r.to - r.from)
-        × HasNoFeedBefore (drop r.from (take r.to r.buffer.items)) r.seen };
+    ghost invariant = { λ r. (vec_len r.buffer ≡ most_held) × (r.from ≤ r.to) × (r.to ≤ most_held)
+        × (r.seen ≤ r.to - r.from) × HasNoFeedBefore (drop r.from (take r.to r.buffer.items)) r.seen };
 }
 
 impl LineReader {
@@ -67,7 +65,7 @@ impl LineReader {
         self.over
     }
 
-    // How many bytes stand before the first line feed, where there is one. No byte is searched twice.
+    // The number of bytes before the first line feed, where there is one. It searches no byte twice.
     fn find_feed(&mut self) -> Option<usize>
         ensures same { self.new ≡ self.old }
         ensures found { FindsFeed self.old.pending result }
@@ -121,7 +119,7 @@ impl LineReader {
         &self.buffer[self.from..self.from + count]
     }
 
-    /// Lets go of the first bytes.
+    /// Takes the first bytes.
     pub fn skip(&mut self, count: usize)
         requires { count ≤ length self.old.pending }
         ensures { self.new ≡ record self.old { pending = drop count self.old.pending } }
@@ -132,7 +130,7 @@ impl LineReader {
 
     /// Reads more bytes, in one read.
     pub fn fill<I: Source>(&mut self, source: &mut I) -> Result<(), Failed>
-        requires { length self.old.pending ≤ longest_line }
+        requires { length self.old.pending ≤ LONGEST_LINE }
         ensures bytes { Fills result self.old self.new (I.left source.old) (I.left source.new) }
         ensures cause { HasCause (I.faults source.old) (I.faults source.new) result }
     {
@@ -158,11 +156,12 @@ fn move_to_front(buffer: &mut Vec<u8>, from: usize, to: usize)
     buffer.copy_within(from..to, 0);
 }
 
-// Reads behind the first bytes, which stay as they are.
+// Reads behind the first bytes, and leaves those as they are.
 fn read_behind<I: Source>(source: &mut I, buffer: &mut Vec<u8>, to: usize) -> Result<usize, Failed>
     requires { to < vec_len buffer.old }
     ensures len { vec_len buffer.new ≡ vec_len buffer.old }
-    ensures bytes { IfOk result (λ n. ReadsBehind (take to buffer.old.items) buffer.new.items n (I.left source.old) (I.left source.new)) }
+    ensures bytes { IfOk result (λ n. ReadsBehind (take to buffer.old.items) buffer.new.items n
+        (I.left source.old) (I.left source.new)) }
     ensures fits { IfOk result (λ n. to + n ≤ vec_len buffer.new) }
     ensures kept { OnErr result (Keeps (I.left source.old) (I.left source.new)) }
     ensures same { OnErr result (take to buffer.new.items ≡ take to buffer.old.items) }

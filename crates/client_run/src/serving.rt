@@ -11,8 +11,8 @@ use disk_model::{Sink, Source};
 use std::alloc::{AllocError, Global};
 use transcript::SessionEnd;
 
-/// Serves lines until one of them ends the session, the source ends, or a call fails. Its own memory, about 4.1
-/// MiB, is taken before the first read.
+/// Serves lines until one of them ends the session, the source ends, or a call fails. It takes its own memory, about
+/// 4.1 MiB, before the first read.
 pub fn session<R, S: Service, I: Source, W: Sink>(
     rt: &R,
     alloc: Global,

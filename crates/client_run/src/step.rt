@@ -1,6 +1,6 @@
-// The next line, and its answer.
+//! The next line, and its answer.
+
 ghost use Rattle.std.specs.Prelude.{◌≡◌, ◌≤◌, Err};
-ghost use Rattle.transcript.specs.Lines.{most_lines};
 ghost use Rattle.transcript.specs.declared.session_end.SessionEnd.TheVariants.{ReadFault, WriteFault};
 ghost use Rattle.client_run.specs.Closing.{Blames};
 ghost use Rattle.client_run.specs.Reading.{Gathers};
@@ -14,12 +14,9 @@ use crate::service::Service;
 use client_lines::Outbox;
 use disk_model::{Sink, Source};
 use std::alloc::Global;
-use transcript::{Reply, SessionEnd};
+use transcript::{MAX_LINES, Reply, SessionEnd};
 
-/// The greatest number of lines of a session.
-const MOST_LINES: u64 = 1 << 40;
-
-// Finds the next line. What waits is sent before each read.
+// Finds the next line. It sends what waits before each read.
 fn find_next<I: Source, W: Sink>(
     reader: &mut LineReader,
     outbox: &mut Outbox,
@@ -42,8 +39,8 @@ fn find_next<I: Source, W: Sink>(
     Ok(found)
 }
 
-/// Answers the next line, behind so many that were served, or says how the session ends. A line past the limits is
-/// answered and ends it.
+/// Answers the next line, where `served` ones came before it, or returns how the session ends. It also answers a line
+/// past the limits, which ends the session.
 pub fn step<R, S: Service, I: Source, W: Sink>(
     rt: &R,
     alloc: Global,
@@ -54,7 +51,7 @@ pub fn step<R, S: Service, I: Source, W: Sink>(
     sink: &mut W,
     served: u64,
 ) -> Result<(), SessionEnd>
-    requires few { served ≤ most_lines }
+    requires few { served ≤ MAX_LINES }
     requires ready { S.ready service.old }
     ensures ready { S.ready service.new }
     ensures steps { Steps S.answers result
@@ -64,13 +61,13 @@ pub fn step<R, S: Service, I: Source, W: Sink>(
     ensures write_fault { Blames (W.faults sink.old) (W.faults sink.new) (result ≡ Err WriteFault) }
 {
     match find_next(reader, outbox, source, sink)? {
-        Find::Line(len) if served < MOST_LINES => {
+        Find::Line(len) if served < MAX_LINES => {
             let line = without_return(reader.front(len));
             answer_line(rt, alloc, service, line, outbox, sink)?;
             reader.skip(len + 1);
             Ok(())
         }
-        Find::Last(len) if served < MOST_LINES => {
+        Find::Last(len) if served < MAX_LINES => {
             answer_line(rt, alloc, service, reader.front(len), outbox, sink)?;
             Err(close(outbox, sink, SessionEnd::End))
         }

@@ -41,7 +41,7 @@ no_name text name k is bad index good also =
     let same = range_once (name, k) index (sym is ∙ also) in
     bad (subst (λ (i : Index). IsName i.0) (sym same) good)
 
--- neither end stands there
+-- neither end is there
 pub no_end : (text : List ℕ) → ((front : List ℕ) → text ≢ front ++ codes ":decimal")
     → ((front : List ℕ) → text ≢ front ++ codes ":string") → (index : Index) → IsName index.0
     → text ≢ range_text index
@@ -84,7 +84,7 @@ turned : (i j : Index) → index_eq i j ≡ index_eq j i
 turned i j = ap (λ (b : Bool). b && kind_eq i.1 j.1) (bytes_turned i.0 j.0)
     ∙ ap (λ (b : Bool). bytes_eq j.0 i.0 && b) (kind_turned i.1 j.1)
 
--- an index stands twice
+-- an index occurs twice
 pub twice : (olds : List Index) (i : Index) (others : List Index) → is_indexed olds i ≡ true
     → no_index_twice (olds ++ i ∷ others) ≡ false
 twice [] i others is = absurd (false≢true is)
@@ -100,7 +100,7 @@ twice (x ∷ xs) i others is = elim (either (index_eq i x)) [
       (twice xs i others (ap (λ (b : Bool). b || is_indexed xs i) (sym apart) ∙ is))
 ]
 
--- an index that stands nowhere is added
+-- an index that occurs nowhere is added
 pub once_more : (olds : List Index) (i : Index) → no_index_twice olds ≡ true → is_indexed olds i ≡ false
     → no_index_twice (olds ++ i ∷ []) ≡ true
 once_more [] i distinct is = refl

@@ -25,7 +25,7 @@ pub pushed : {A : Type 0} (f : Use → List A) (uses : List Use) (u : Use)
     → flat_map f (uses ++ u ∷ []) ≡ flat_map f uses ++ f u
 pushed f uses u = flat_map-append f uses (u ∷ []) ∙ ap (λ l. flat_map f uses ++ l) (append-nil (f u))
 
--- a use that gives this, wherever it stands
+-- a use that gives this, wherever it is
 value_at : (s : Setting) (value : Bor (List ℕ)) (found : Use) → IsOf (Given s value) found
     → (pick : Setting → List ℕ → List (List ℕ)) → (place_of found ≡ []) × (value_of pick found ≡ pick s value.now)
 value_at s value (word t) of pick = absurd of
@@ -136,7 +136,7 @@ adds_merge old new value n none is good found of uses holds =
       merge = filled 2 64 (value_of merge_value) uses found value.now n was (at merge_value).1 good;
     })
 
--- of a list with one element no element stands before or behind it
+-- of a list with one element no element comes before or after it
 only_one : (xs : List (List ℕ)) (v : List ℕ) (ys : List (List ℕ)) (text : List ℕ) → xs ++ v ∷ ys ≡ text ∷ []
     → (xs ≡ []) × (v ≡ text)
 only_one [] v ys text is = (refl, heads v text ys [] is)

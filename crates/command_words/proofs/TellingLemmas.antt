@@ -33,7 +33,7 @@ read_more words old new rest rest' taken s f adds = record {
   holds = adds f.found f.of s.uses s.holds;
 }
 
--- all uses of the words go on behind those that were read
+-- all uses of the words follow those that were read
 gone : (words : List (List ℕ)) (reading : Reading) (rest : List (List ℕ)) (s : ReadsSome words reading rest)
     (uses : List Use) (behind : List (List ℕ)) (read : AreUses words uses behind) → GoOn s.uses uses rest read.rest
 gone words reading rest s uses behind read =

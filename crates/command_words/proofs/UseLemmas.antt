@@ -156,7 +156,7 @@ joined_first text behind s tail value named is = record {
   written = ap (λ (t : List ℕ). t ∷ behind) (named ∙ ap (λ (t : List ℕ). spelled s ++ t) is);
 }
 
--- the first word of a list and those behind it
+-- the first word of a list and those after it
 pub first_word : (words : List (String Global)) (w : String Global) → 1 ≤ length words → w ≡ get_or words 0 w
     → map string_bytes words ≡ string_bytes w ∷ map string_bytes (take (length words - 1) (drop 1 words))
 first_word [] w some is = absurd (omega (arith, some))
@@ -227,14 +227,14 @@ two_words (x ∷ y ∷ []) v w some few is also =
     ∙ ap (λ (s : String Global). string_bytes v ∷ string_bytes s ∷ []) (sym also)
 two_words (x ∷ y ∷ z ∷ xs) v w some few is also = absurd (omega (arith, few))
 
--- one word before the end, and none behind it
+-- one word before the end, and none after it
 pub only_before : (before : Option (Bor (List ℕ))) (rest : List (List ℕ)) (text : Bor (List ℕ)) (seen : List ℕ)
     → before ≡ Some text → rest ≡ seen ∷ [] → seen ≡ codes "--"
     → (behind : List (List ℕ)) × Ends rest behind × (listed before ++ behind ≡ text.now ∷ [])
 only_before before rest text seen some is end =
     ([], inr (is ∙ ap (λ (t : List ℕ). t ∷ []) end), ap (λ (b : Option (Bor (List ℕ))). listed b ++ []) some)
 
--- one word behind the end, and none before it
+-- one word after the end, and none before it
 pub only_behind : (before : Option (Bor (List ℕ))) (rest : List (List ℕ)) (text seen word' : List ℕ)
     → before ≡ None → rest ≡ seen ∷ word' ∷ [] → seen ≡ codes "--" → text ≡ word'
     → (behind : List (List ℕ)) × Ends rest behind × (listed before ++ behind ≡ text ∷ [])

@@ -16,7 +16,7 @@ abbrev pub kind_text : Kind → List ℕ
 kind_text kind.Decimal = codes "decimal"
 kind_text kind.Text = codes "string"
 
--- NAME:TYPE. No type has a colon, so it stands behind the last one
+-- NAME:TYPE. No type has a colon, so it follows the last one
 abbrev pub range_text : Index → List ℕ
 range_text index = index.0 ++ 0x3A ∷ kind_text index.1
 
@@ -36,7 +36,7 @@ IsGiven texts default least most n =
     ((texts ≡ []) × (n ≡ default))
     ⊎ ((text : List ℕ) × (texts ≡ text ∷ []) × IsNumber least most text n)
 
--- the uses, and the words behind `--`, name one directory, and give these settings
+-- the uses, and the words after `--`, name one directory, and give these settings
 pub record Settle (uses : List Use) (behind : List (List ℕ)) (directory : List ℕ) (settings : Settings) : Type 0 where
   pub named : places uses ++ behind ≡ directory ∷ []
   pub ranges : values range_value uses ≡ map range_text settings.indexes
@@ -87,8 +87,8 @@ asked_settings init =
     record { indexes = map index_of init.ranges.items; save_at = init.save_at; merge_at = init.merge_at }
 
 -- what the words ask, if anything
-abbrev pub Asks : List (List ℕ) → Option Command → Type 0
-Asks words None = DoNotFit words
-Asks words (Some (command.Init init)) = AsksInit words init.directory.now (asked_settings init)
-Asks words (Some (command.Run directory)) = AsksRun words directory.now
-Asks words (Some (command.Check directory)) = AsksCheck words directory.now
+abbrev pub WordsAsk : List (List ℕ) → Option Command → Type 0
+WordsAsk words None = DoNotFit words
+WordsAsk words (Some (command.Init init)) = AsksInit words init.directory.now (asked_settings init)
+WordsAsk words (Some (command.Run directory)) = AsksRun words directory.now
+WordsAsk words (Some (command.Check directory)) = AsksCheck words directory.now

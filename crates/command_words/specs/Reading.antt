@@ -13,12 +13,12 @@ use Rattle.command_words.specs.declared.uses.Argument.TheVariants as argument
 use Rattle.command_words.specs.declared.uses.Setting.{Setting}
 use denote.Ref.{Bor}
 
--- what stands behind the head; none of a word that doesn't begin so
+-- what follows the head; none of a word that doesn't begin so
 abbrev pub FindsRest : List ℕ → List ℕ → Option (Bor (List ℕ)) → Type 0
 FindsRest bytes head found =
     MatchOption found ((rest : List ℕ) → bytes ≢ head ++ rest) (λ rest. bytes ≡ head ++ rest.now)
 
--- what stands before the tail; none of a word that doesn't end so
+-- what comes before the tail; none of a word that doesn't end so
 abbrev pub FindsFront : List ℕ → List ℕ → Option (Bor (List ℕ)) → Type 0
 FindsFront bytes tail found =
     MatchOption found ((front : List ℕ) → bytes ≢ front ++ tail) (λ front. bytes ≡ front.now ++ tail)
@@ -88,7 +88,7 @@ pub record AddsRange (old new : List Index) (text : List ℕ) : Type 0 where
   pub added : new ≡ old ++ index ∷ []
   pub distinct : IsTrue (is_index_list old) → IsTrue (is_index_list new)
 
--- a word is no index, or one that stands there already, or one too many
+-- a word is no index, or one that is there already, or one too many
 abbrev pub RefusesRange : List Index → List ℕ → Type 0
 RefusesRange old text =
     ((index : Index) → IsName index.0 → text ≢ range_text index)
@@ -114,7 +114,7 @@ Refuses old taken = (found : Use) → IsOf taken found → (uses more : List Use
     → (behind : List (List ℕ)) (directory : List ℕ) (settings : Settings)
     → Settle (uses ++ found ∷ more) behind directory settings → ⊥
 
--- the one word that stands for itself, before the end or behind it
+-- the only word that isn't an option, before the end of the options or after it
 abbrev pub FindsOnly : List (List ℕ) → List (List ℕ) → Option (Bor (List ℕ)) → Type 0
 FindsOnly before rest found =
     MatchOption found

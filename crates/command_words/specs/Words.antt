@@ -1,4 +1,4 @@
--- How words are read: which of them are options, and which stand for themselves.
+-- How words are read: which of them are options, and which are plain words.
 use Rattle.std.specs.Prelude.{ℕ, ◌≡◌, ◌≢◌, ◌⊎◌, ⊤, List, [], ◌∷◌, ◌++◌, All, Some, codes, slice_get}
 use Rattle.std.specs.List.{flat_map}
 use Rattle.command_words.specs.declared.uses.Setting.{Setting}
@@ -10,7 +10,7 @@ spelled Range = codes "--range"
 spelled SaveAt = codes "--save-at"
 spelled MergeAt = codes "--merge-at"
 
--- a word that stands for itself, or an option with its value: in the word behind it, or behind `=` in its own
+-- a plain word, or an option with its value: the next word, or what follows `=` in its own
 pub data Use : Type 0 where
   word : List ℕ → Use
   apart : Setting → List ℕ → Use
@@ -26,24 +26,24 @@ words_of (joined setting value) = (spelled setting ++ 0x3D ∷ value) ∷ []
 abbrev pub HasNoDash : List ℕ → Type 0
 HasNoDash text = slice_get text 0 ≢ Some 0x2D
 
--- a word that stands for itself and a value that is a word of its own don't begin with a dash
+-- a plain word and a value that is a word of its own don't begin with a dash
 abbrev pub IsUse : Use → Type 0
 IsUse (word text) = HasNoDash text
 IsUse (apart setting value) = HasNoDash value
 IsUse (joined setting value) = ⊤
 
--- no more words; or `--`, behind which each word stands for itself
+-- no more words; or `--`, after which each word is a plain one
 abbrev pub Ends : List (List ℕ) → List (List ℕ) → Type 0
 Ends rest behind = ((rest ≡ []) × (behind ≡ [])) ⊎ (rest ≡ codes "--" ∷ behind)
 
--- the words are those of these uses, one behind the other, and then these words behind `--`
+-- the words are those of these uses, one after the other, and then these words after `--`
 pub record AreUses (words : List (List ℕ)) (uses : List Use) (behind : List (List ℕ)) : Type 0 where
   pub rest : List (List ℕ)
   pub each : All IsUse uses
   pub written : words ≡ flat_map words_of uses ++ rest
   pub ends : Ends rest behind
 
--- the word of a use that stands for itself
+-- the word of a use that is a plain one
 abbrev pub place_of : Use → List (List ℕ)
 place_of (word text) = text ∷ []
 place_of (apart setting value) = []
@@ -71,7 +71,7 @@ value_of pick (word text) = []
 value_of pick (apart setting value) = pick setting value
 value_of pick (joined setting value) = pick setting value
 
--- the words that stand for themselves, in their order
+-- the plain words, in their order
 abbrev pub places : List Use → List (List ℕ)
 places uses = flat_map place_of uses
 

@@ -1,12 +1,13 @@
-// The commands.
+//! The commands.
+
 ghost use Rattle.std.specs.Prelude.{◌≡◌, IfOk, IsTrue, map, string_bytes};
-ghost use Rattle.command_words.specs.Asked.{Asks, asked_settings, index_of};
+ghost use Rattle.command_words.specs.Asked.{WordsAsk, asked_settings, index_of};
 ghost use Rattle.command_words.specs.Reading.{or_default};
 ghost use Rattle.doc_model.specs.Queries.{is_index_list};
 
-use crate::ranges::{MOST_RANGES, Range, indexes_of};
+use crate::ranges::{MAX_RANGES, Range, indexes_of};
 use crate::reading::{Reading, read};
-use crate::scan::is;
+use crate::scan::same;
 use arrayvec::ArrayVec;
 use doc_model::Settings;
 use std::alloc::{AllocError, Global};
@@ -26,7 +27,7 @@ pub enum Command<'a> {
 #[derive(Drop)]
 pub struct Init<'a> {
     pub directory: &'a str,
-    pub ranges: ArrayVec<Range<'a>, MOST_RANGES>,
+    pub ranges: ArrayVec<Range<'a>, MAX_RANGES>,
     /// How many fragments in memory make a save due.
     pub save_at: u32,
     /// How many parts on disk make a merge due.
@@ -62,17 +63,17 @@ impl<'a> Init<'a> {
     }
 }
 
-/// What the words ask, of which the first is the command. `None` says that they ask nothing.
+/// The command that the words ask for, of which the first is its name. `None` where they ask for none.
 ///
 /// It takes time in the bytes of the words, and no memory.
 pub fn understand(words: &[String]) -> Option<Command<'_>>
-    ensures { Asks (map string_bytes words.now) result }
+    ensures { WordsAsk (map string_bytes words.now) result }
 {
     let [command, rest @ ..] = words else {
         return None;
     };
     let (reading, directory) = read(rest)?;
-    if is(command, "init") {
+    if same(command, "init") {
         return Some(Command::Init(Init::new(directory, reading)));
     }
     if !reading.is_bare() {

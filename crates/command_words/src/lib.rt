@@ -13,4 +13,4 @@ mod tests;
 mod uses;
 
 pub use asked::{Command, Init, understand};
-pub use ranges::{MOST_RANGES, Range};
+pub use ranges::{MAX_RANGES, Range};

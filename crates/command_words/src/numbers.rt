@@ -1,10 +1,11 @@
-// Numbers in words.
+//! Numbers in words.
+
 ghost use Rattle.std.specs.Prelude.{◌≡◌};
 ghost use Rattle.std.specs.Bool.{Decides};
 ghost use Rattle.std.specs.Fmt.{decimal};
 ghost use Rattle.command_words.specs.Reading.{FindsNumber};
 
-use crate::scan::is;
+use crate::scan::same;
 use itoa::Buffer;
 
 // The number that a word is, within bounds. Written again it is the same word, so it has no sign and no leading zero.
@@ -26,5 +27,5 @@ fn is_written(number: u32, word: &str) -> bool
     ensures { Decides result (word.now ≡ decimal number) }
 {
     let mut buffer = Buffer::new();
-    is(word, buffer.format(number))
+    same(word, buffer.format(number))
 }

@@ -1,4 +1,5 @@
-// Range indexes in words.
+//! Range indexes in words.
+
 ghost use Rattle.std.specs.Prelude.{◌≡◌, ◌↔◌, IfOk, IsTrue, OnErr, OnOk, map};
 ghost use Rattle.command_words.specs.Asked.{IsName, index_of};
 ghost use Rattle.command_words.specs.Reading.{AddsRange, FindsRange, RefusesRange, has_range};
@@ -11,7 +12,7 @@ use doc_model::{Indexes, Kind, Text};
 use std::alloc::{AllocError, Global};
 
 /// How many range indexes there are at most.
-pub const MOST_RANGES: usize = 64;
+pub const MAX_RANGES: usize = doc_model::MAX_INDEXES;
 
 const LONGEST_NAME: usize = 0xFFFF_FFFF;
 
@@ -31,9 +32,10 @@ impl Default for Range<'_> {
     }
 }
 
-// Adds what a word says. It is refused where it isn't NAME:TYPE, stands there already, or is one too many.
+// Adds the index that a word names. Refuses a word that isn't NAME:TYPE, an index that is there already, and one too
+// many.
 pub(crate) fn take_range<'a>(
-    ranges: &mut ArrayVec<Range<'a>, MOST_RANGES>,
+    ranges: &mut ArrayVec<Range<'a>, MAX_RANGES>,
     word: &'a str,
 ) -> Result<(), Unfit>
     ensures added { OnOk result

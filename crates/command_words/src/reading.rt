@@ -1,11 +1,12 @@
-// What the uses of a command's words give.
+//! What the uses of a command's words give.
+
 ghost use Rattle.std.specs.Prelude.{[], ◌↔◌, ◌≡◌, IsSome, IsTrue, None, OnErr, OnOk, Some, map, string_bytes};
 ghost use Rattle.command_words.specs.declared.uses.Argument.TheVariants.{Given};
 ghost use Rattle.command_words.specs.Reading.{Adds, FindsOnly, FindsReading, Holds, IsBare, Refuses, listed};
 
 use crate::numbers::number;
-use crate::ranges::{MOST_RANGES, Range, take_range};
-use crate::scan::is;
+use crate::ranges::{MAX_RANGES, Range, take_range};
+use crate::scan::same;
 use crate::uses::{Argument, Setting, next_use};
 use arrayvec::ArrayVec;
 
@@ -17,7 +18,7 @@ pub(crate) struct Unfit;
 #[derive(Drop)]
 pub(crate) struct Reading<'a> {
     pub(crate) directory: Option<&'a str>,
-    pub(crate) ranges: ArrayVec<Range<'a>, MOST_RANGES>,
+    pub(crate) ranges: ArrayVec<Range<'a>, MAX_RANGES>,
     pub(crate) save_at: Option<u32>,
     pub(crate) merge_at: Option<u32>,
 }
@@ -34,7 +35,7 @@ impl<'a> Reading<'a> {
         }
     }
 
-    // Takes what a use gives. It is refused where that may not be given twice, or is out of form.
+    // Takes what a use gives. Refuses what is given twice, or isn't well formed.
     #[tactic(auto, using(crate::proofs::ReadingLemmas::adds_word, crate::proofs::ReadingLemmas::refuses_word))]
     fn take(&mut self, argument: Argument<'a>) -> Result<(), Unfit>
         ensures added { OnOk result (Adds self.old self.new argument.entry) }
@@ -101,14 +102,14 @@ pub(crate) fn read(words: &[String]) -> Option<(Reading<'_>, &str)>
     Some((reading, directory))
 }
 
-// The one word that stands for itself: one before the end of the options, or the one behind it.
+// The only word that isn't an option: one before the end of the options, or the one after it.
 fn only_word<'a>(before: Option<&'a str>, rest: &'a [String]) -> Option<&'a str>
     ensures { FindsOnly (listed before.entry) (map string_bytes rest.now) result }
 {
     match (before, rest) {
         (Some(word), []) => Some(word),
-        (Some(word), [end]) if is(end, "--") => Some(word),
-        (None, [end, word]) if is(end, "--") => Some(word),
+        (Some(word), [end]) if same(end, "--") => Some(word),
+        (None, [end, word]) if same(end, "--") => Some(word),
         _ => None,
     }
 }

@@ -1,17 +1,18 @@
-// What a word begins or ends with.
+//! What a word begins or ends with.
+
 ghost use Rattle.std.specs.Prelude.{◌≡◌, ◌↔◌, IsTrue};
 ghost use Rattle.std.specs.Bool.{Decides};
 ghost use Rattle.command_words.specs.Words.{HasNoDash};
 ghost use Rattle.command_words.specs.Reading.{FindsFront, FindsRest};
 
-// What stands behind a beginning, if the word has it.
+// What follows a beginning, if the word has it.
 pub(crate) fn strip<'a>(word: &'a str, head: &str) -> Option<&'a str>
     ensures { FindsRest word.now head.now result }
 {
     word.strip_prefix(head)
 }
 
-// What stands before an end, if the word has it.
+// What comes before an end, if the word has it.
 pub(crate) fn strip_end<'a>(word: &'a str, tail: &str) -> Option<&'a str>
     ensures { FindsFront word.now tail.now result }
 {
@@ -27,7 +28,7 @@ pub(crate) fn has_no_dash(word: &str) -> bool
 }
 
 // Whether two texts are the same.
-pub(crate) fn is(word: &str, text: &str) -> bool
+pub(crate) fn same(word: &str, text: &str) -> bool
     ensures { Decides result (word.now ≡ text.now) }
 {
     word == text

@@ -1,4 +1,5 @@
-// What lines of words ask.
+//! What lines of words ask.
+
 use super::*;
 use std::alloc::Global;
 use std::test::Fail;

@@ -1,4 +1,5 @@
-// The words of a command, one use after the other.
+//! The words of a command, one use after the other.
+
 ghost use Rattle.std.specs.Prelude.{◌∷◌, map, string_bytes};
 ghost use Rattle.command_words.specs.Reading.{FindsSetting, FindsUse};
 ghost use Rattle.command_words.specs.Words.{HasNoDash};
@@ -13,14 +14,14 @@ pub(crate) enum Setting {
     MergeAt,
 }
 
-// A word that stands for itself, or an option with its value.
+// A word that is no option, or an option with its value.
 #[derive(Clone, Copy)]
 pub(crate) enum Argument<'a> {
     Word(&'a str),
     Given(Setting, &'a str),
 }
 
-// The use with which the words begin, and the words behind it. None where they end, at `--`, and at a word that is no
+// The use with which the words begin, and the words after it. None where they end, at `--`, and at a word that is no
 // option and has a dash.
 pub(crate) fn next_use(words: &[String]) -> Option<(Argument<'_>, &[String])>
     ensures { FindsUse (map string_bytes words.now) result }
@@ -35,7 +36,7 @@ pub(crate) fn next_use(words: &[String]) -> Option<(Argument<'_>, &[String])>
     }
 }
 
-// The option that a word names, with its value: behind `=`, or the next word, which has no dash.
+// The option that a word names, with its value: after `=`, or the next word, which has no dash.
 fn given<'a>(word: &'a str, behind: &'a [String]) -> Option<(Argument<'a>, &'a [String])>
     requires { HasNoDash word.now → ⊥ }
     ensures { FindsUse (word.now ∷ map string_bytes behind.now) result }

@@ -12,7 +12,7 @@ use Rattle.json_text.specs.Grammar.{Each, Member}
 use Rattle.cts_meaning.specs.Canonical.{only_if, options_member, query_object, query_step, texts_node}
 use Rattle.cts_meaning.specs.Faults.{AreFaultless, IsFaultless}
 use Rattle.cts_meaning.specs.Saying.{Says}
-use Rattle.cts_meaning.specs.Shapes.{Field, field_shape, fields_of, greatest_distance, item_parts, parts_by, rule_of, whole}
+use Rattle.cts_meaning.specs.Shapes.{Field, field_shape, fields_of, greatest_distance, item_parts, children_by, rule_of, whole}
 use Rattle.cts_meaning.specs.declared.form.QueryForm.TheVariants as form
 use Rattle.cts_meaning.specs.declared.shape.OptionKind.TheVariants as options
 use Rattle.cts_meaning.specs.declared.shape.Shape.TheVariants as shape
@@ -60,7 +60,7 @@ queries_entry : (fields : List Field) (depth : ℕ) (nodes : List Node) (queries
 queries_entry fields depth nodes queries found sound =
     entry fields (codes "queries") (node.Items nodes) shape.Queries found
     (faultless_of shape.Queries (node.Items nodes) (item_parts shape.Query nodes)
-    (ap (parts_by (rule_of shape.Queries)) (out_items nodes)) sound.clean)
+    (ap (children_by (rule_of shape.Queries)) (out_items nodes)) sound.clean)
     (names_items nodes ∙ sound.names)
 
 pub and_sound : (depth : ℕ) (nodes : List Node) (queries : List Query) → AreSound depth nodes queries →

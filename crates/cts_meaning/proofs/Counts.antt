@@ -7,7 +7,7 @@ use Rattle.doc_model.specs.declared.node.Node.TheOpen.{Node-F}
 use Rattle.doc_model.specs.declared.node.Node.TheFolds.{fold-roll-Node}
 use Rattle.json_text.specs.Grammar.{Member}
 use Rattle.cts_meaning.specs.Faults.{count_step, node_count, number_behind}
-use Rattle.cts_meaning.specs.Shapes.{Part, item_parts}
+use Rattle.cts_meaning.specs.Shapes.{ShapedNode, item_parts}
 use Rattle.cts_meaning.specs.declared.shape.Shape.{Shape}
 use Rattle.cts_meaning.proofs.Nodes.{Sort, sort}
 
@@ -61,17 +61,17 @@ count_some n = some_by n (sort n)
 
 -- ---- of parts
 
-abbrev pub part_count : Part → ℕ
+abbrev pub part_count : ShapedNode → ℕ
 part_count part = node_count part.1
 
-pub behind_append : (before behind : List Part) (part : Part) →
+pub behind_append : (before behind : List ShapedNode) (part : ShapedNode) →
     number_behind (before ++ part ∷ behind) ≡ number_behind before + (node_count part.1 + sum_by part_count behind)
 behind_append before behind part =
     let all = sum_by-append part_count before (part ∷ behind) in
     let one = sum_by-cons part_count part behind in
     omega (arith, all, one)
 
-pub behind_cons : (part : Part) (parts : List Part) →
+pub behind_cons : (part : ShapedNode) (parts : List ShapedNode) →
     number_behind (part ∷ parts) ≡ node_count part.1 + number_behind parts
 behind_cons part parts = omega (arith, sum_by-cons part_count part parts)
 

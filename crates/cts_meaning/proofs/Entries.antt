@@ -11,7 +11,7 @@ use Rattle.json_text.specs.Grammar.{Member}
 use Rattle.cts_meaning.specs.Canonical.{query_object}
 use Rattle.cts_meaning.specs.Faults.{AreFaultless, IsFaultless}
 use Rattle.cts_meaning.specs.Saying.{Says, SaysAs}
-use Rattle.cts_meaning.specs.Shapes.{Field, Part, field_shape, fields_of, form_name, is_given, member_parts, parts_by, parts_of, rule_of}
+use Rattle.cts_meaning.specs.Shapes.{Field, ShapedNode, field_shape, fields_of, form_name, is_given, member_parts, children_by, shaped_children, rule_of}
 use Rattle.cts_meaning.specs.declared.form.QueryForm.{QueryForm}
 use Rattle.cts_meaning.specs.declared.shape.Shape.{Shape}
 use Rattle.cts_meaning.specs.declared.shape.Shape.TheVariants as shape
@@ -72,22 +72,22 @@ argument_clean f members entries given =
     (list_all (λ m. is_some (field_shape (fields_of f) m.0)) members) given
     (entries_known (fields_of f) members entries) in
     faultless_of (shape.Argument f) (node.Members members) parts
-    (ap (parts_by (rule_of (shape.Argument f))) (out_members members)
+    (ap (children_by (rule_of (shape.Argument f))) (out_members members)
     ∙ ap (λ (b : Bool). cond b (Some parts) None) fits)
     (entries_clean (fields_of f) members entries)
 
-abbrev pub form_part : Node → Option QueryForm → List Part
+abbrev pub form_part : Node → Option QueryForm → List ShapedNode
 form_part argument o =
     option_to_list (option_map (λ (s : Shape). (s, argument)) (option_map (λ f. shape.Argument f) o)) ++ []
 
-abbrev form_parts : Node → Option QueryForm → Option (List Part)
+abbrev form_parts : Node → Option QueryForm → Option (List ShapedNode)
 form_parts argument o =
     cond (is_some (option_map (λ f. shape.Argument f) o) && true) (Some (form_part argument o)) None
 
 query_fits : (f : QueryForm) (argument : Node) →
-    parts_of shape.Query (node.Members ((form_name f, argument) ∷ [])) ≡ Some ((shape.Argument f, argument) ∷ [])
+    shaped_children shape.Query (node.Members ((form_name f, argument) ∷ [])) ≡ Some ((shape.Argument f, argument) ∷ [])
 query_fits f argument =
-    ap (parts_by (rule_of shape.Query)) (out_members ((form_name f, argument) ∷ []))
+    ap (children_by (rule_of shape.Query)) (out_members ((form_name f, argument) ∷ []))
     ∙ ap (form_parts argument) (form_of_name f)
 
 query_clean : (f : QueryForm) (argument : Node) → IsFaultless (shape.Argument f) argument →

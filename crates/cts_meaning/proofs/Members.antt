@@ -11,7 +11,7 @@ use Rattle.doc_model.specs.declared.node.Node.{Node}
 use Rattle.json_text.specs.Grammar.{Member}
 use Rattle.cts_meaning.specs.Faults.{AreFaultless, IsFaultless, node_count}
 use Rattle.cts_meaning.specs.Saying.{value_of}
-use Rattle.cts_meaning.specs.Shapes.{Field, Part, field_shape, fields_of, is_given, member_parts, needs}
+use Rattle.cts_meaning.specs.Shapes.{Field, ShapedNode, field_shape, fields_of, is_given, member_parts, needs}
 use Rattle.cts_meaning.specs.declared.form.QueryForm.{QueryForm}
 use Rattle.cts_meaning.specs.declared.shape.Shape.{Shape}
 use Rattle.cts_meaning.proofs.Counts.{member_count}
@@ -45,16 +45,16 @@ value_within name (m ∷ ms) n v =
 
 -- ---- of an object without faults
 
-abbrev asked_parts : Option Shape → Member → List Part → List Part
+abbrev asked_parts : Option Shape → Member → List ShapedNode → List ShapedNode
 asked_parts o m rest = option_to_list (option_map (λ (s : Shape). (s, m.1)) o) ++ rest
 
-here_clean : (o : Option Shape) (m : Member) (rest : List Part) (wanted : Shape) → o ≡ Some wanted →
+here_clean : (o : Option Shape) (m : Member) (rest : List ShapedNode) (wanted : Shape) → o ≡ Some wanted →
     AreFaultless (asked_parts o m rest) → IsFaultless wanted m.1
 here_clean None m rest wanted e clean = absurd (not_some wanted e)
 here_clean (Some s) m rest wanted e clean =
     subst (λ (k : Shape). IsFaultless k m.1) (same_some s wanted e) clean.0
 
-rest_clean : (o : Option Shape) (m : Member) (rest : List Part) → AreFaultless (asked_parts o m rest) →
+rest_clean : (o : Option Shape) (m : Member) (rest : List ShapedNode) → AreFaultless (asked_parts o m rest) →
     AreFaultless rest
 rest_clean None m rest clean = clean
 rest_clean (Some s) m rest clean = clean.1

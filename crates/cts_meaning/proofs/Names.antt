@@ -1,4 +1,4 @@
--- Whether the names in a node are distinct, from what stands in it.
+-- Whether the names in a node are distinct, from what it holds.
 use Rattle.std.proofs.Common.{◌≡◌, ℕ, ℤ, ◌&&◌, Bool, true, List, [], ◌∷◌, map, refl, sym, ap, ◌∙◌}
 use Rattle.std.proofs.lemmas.Bool.{and_from}
 use Rattle.std.proofs.lemmas.List.Folds.{list_all-map}

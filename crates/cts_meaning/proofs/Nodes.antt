@@ -1,4 +1,4 @@
--- What stands in a node, read off its layer: so nodes of two sorts differ, and those of one sort have the same parts.
+-- What a node holds, read off its layer: so nodes of two sorts differ, and those of one sort have the same parts.
 use Rattle.std.proofs.Common.{◌≡◌, ℕ, ℤ, pos, Bool, List, [], refl, sym, ap, ◌∙◌}
 use Rattle.doc_model.specs.declared.node.Node.{Node}
 use Rattle.doc_model.specs.declared.node.Node.TheVariants as node

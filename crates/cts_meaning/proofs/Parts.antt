@@ -12,7 +12,7 @@ use Rattle.doc_model.specs.declared.scalar.Scalar.{Scalar}
 use Rattle.doc_model.specs.declared.scalar.Scalar.TheVariants as scalar
 use Rattle.json_text.specs.Grammar.{Member}
 use Rattle.cts_meaning.specs.Faults.{node_count, number_behind}
-use Rattle.cts_meaning.specs.Shapes.{Part, Rule, arrays, fits_object, item_parts, member_parts, no_parts, objects, parts_by, parts_of, rule_of, scalar_node, scalars, scalars_or, texts}
+use Rattle.cts_meaning.specs.Shapes.{ShapedNode, Rule, arrays, fits_object, item_parts, member_parts, no_parts, objects, children_by, shaped_children, rule_of, scalar_node, scalars, scalars_or, texts}
 use Rattle.cts_meaning.specs.declared.shape.Shape.{Shape}
 use Rattle.cts_meaning.proofs.Counts.{count_items, count_members, member_count, part_count, sum_items}
 use Rattle.cts_meaning.proofs.Named.{not_some, same_some}
@@ -20,7 +20,7 @@ use Rattle.cts_meaning.proofs.Nodes.{Sort, out_bool, out_items, out_members, out
 use Rattle.cts_meaning.proofs.Scalars.{scalar_count}
 
 -- a node that fits a shape has one list of parts
-pub one_list : {o : Option (List Part)} (parts others : List Part) → o ≡ Some parts → o ≡ Some others → parts ≡ others
+pub one_list : {o : Option (List ShapedNode)} (parts others : List ShapedNode) → o ≡ Some parts → o ≡ Some others → parts ≡ others
 one_list parts others fits also = same_some parts others (sym fits ∙ also)
 
 -- ---- what fits
@@ -32,52 +32,52 @@ takes rule (scalar.Bool b) = rule.flat
 takes rule (scalar.Num units) = rule.number units
 takes rule (scalar.Text text) = rule.text text
 
-pub data Fit (rule : Rule) (n : Node) (parts : List Part) : Type 0 where
+pub data Fit (rule : Rule) (n : Node) (parts : List ShapedNode) : Type 0 where
   is_scalar : (s : Scalar) → n ≡ scalar_node s → takes rule s ≡ true → parts ≡ [] → Fit rule n parts
   is_array : (items : List Node) (item : Shape) → n ≡ node.Items items → rule.array items ≡ Some item
       → parts ≡ item_parts item items → Fit rule n parts
   is_object : (members : List Member) → n ≡ node.Members members → fits_object rule members ≡ true
       → parts ≡ member_parts rule.member members → Fit rule n parts
 
-alone_fit : (rule : Rule) (n : Node) (parts : List Part) (s : Scalar) (b : Bool) → n ≡ scalar_node s →
+alone_fit : (rule : Rule) (n : Node) (parts : List ShapedNode) (s : Scalar) (b : Bool) → n ≡ scalar_node s →
     takes rule s ≡ b → no_parts b ≡ Some parts → Fit rule n parts
 alone_fit rule n parts s true is e fits = Fit.is_scalar s is e (sym (same_some [] parts fits))
 alone_fit rule n parts s false is e fits = absurd (not_some parts fits)
 
-array_fit : (rule : Rule) (n : Node) (parts : List Part) (items : List Node) (o : Option Shape) →
+array_fit : (rule : Rule) (n : Node) (parts : List ShapedNode) (items : List Node) (o : Option Shape) →
     n ≡ node.Items items → rule.array items ≡ o → option_map (λ item. item_parts item items) o ≡ Some parts →
     Fit rule n parts
 array_fit rule n parts items None is e fits = absurd (not_some parts fits)
 array_fit rule n parts items (Some item) is e fits =
     Fit.is_array items item is e (sym (same_some (item_parts item items) parts fits))
 
-object_fit : (rule : Rule) (n : Node) (parts : List Part) (ms : List Member) (b : Bool) → n ≡ node.Members ms →
+object_fit : (rule : Rule) (n : Node) (parts : List ShapedNode) (ms : List Member) (b : Bool) → n ≡ node.Members ms →
     fits_object rule ms ≡ b → cond b (Some (member_parts rule.member ms)) None ≡ Some parts → Fit rule n parts
 object_fit rule n parts ms false is e fits = absurd (not_some parts fits)
 object_fit rule n parts ms true is e fits =
     Fit.is_object ms is e (sym (same_some (member_parts rule.member ms) parts fits))
 
-fit_by : (rule : Rule) (n : Node) (parts : List Part) → Sort n → parts_by rule (out-Node n) ≡ Some parts →
+fit_by : (rule : Rule) (n : Node) (parts : List ShapedNode) → Sort n → children_by rule (out-Node n) ≡ Some parts →
     Fit rule n parts
 fit_by rule n parts (Sort.is_null is) e =
-    alone_fit rule n parts scalar.Null rule.flat is refl (sym (ap (parts_by rule) (ap out-Node is ∙ out_null)) ∙ e)
+    alone_fit rule n parts scalar.Null rule.flat is refl (sym (ap (children_by rule) (ap out-Node is ∙ out_null)) ∙ e)
 fit_by rule n parts (Sort.is_bool b is) e =
     alone_fit rule n parts (scalar.Bool b) rule.flat is refl
-    (sym (ap (parts_by rule) (ap out-Node is ∙ out_bool b)) ∙ e)
+    (sym (ap (children_by rule) (ap out-Node is ∙ out_bool b)) ∙ e)
 fit_by rule n parts (Sort.is_number units is) e =
     alone_fit rule n parts (scalar.Num units) (rule.number units) is refl
-    (sym (ap (parts_by rule) (ap out-Node is ∙ out_number units)) ∙ e)
+    (sym (ap (children_by rule) (ap out-Node is ∙ out_number units)) ∙ e)
 fit_by rule n parts (Sort.is_text text is) e =
     alone_fit rule n parts (scalar.Text text) (rule.text text) is refl
-    (sym (ap (parts_by rule) (ap out-Node is ∙ out_text text)) ∙ e)
+    (sym (ap (children_by rule) (ap out-Node is ∙ out_text text)) ∙ e)
 fit_by rule n parts (Sort.is_array items is) e =
     array_fit rule n parts items (rule.array items) is refl
-    (sym (ap (parts_by rule) (ap out-Node is ∙ out_items items)) ∙ e)
+    (sym (ap (children_by rule) (ap out-Node is ∙ out_items items)) ∙ e)
 fit_by rule n parts (Sort.is_object ms is) e =
     object_fit rule n parts ms (fits_object rule ms) is refl
-    (sym (ap (parts_by rule) (ap out-Node is ∙ out_members ms)) ∙ e)
+    (sym (ap (children_by rule) (ap out-Node is ∙ out_members ms)) ∙ e)
 
-pub fit : (rule : Rule) (n : Node) (parts : List Part) → parts_by rule (out-Node n) ≡ Some parts → Fit rule n parts
+pub fit : (rule : Rule) (n : Node) (parts : List ShapedNode) → children_by rule (out-Node n) ≡ Some parts → Fit rule n parts
 fit rule n parts e = fit_by rule n parts (sort n) e
 
 -- ---- scalars, and arrays of them
@@ -88,23 +88,23 @@ pub record Alone (rule : Rule) (n : Node) : Type 0 where
   pub is : n ≡ scalar_node value
   pub passes : takes rule value ≡ true
 
-alone_by : (flat : Bool) (number : ℤ → Bool) (text : List ℕ → Bool) (n : Node) (parts : List Part) →
+alone_by : (flat : Bool) (number : ℤ → Bool) (text : List ℕ → Bool) (n : Node) (parts : List ShapedNode) →
     Fit (scalars flat number text) n parts → Alone (scalars flat number text) n
 alone_by flat number text n parts (Fit.is_scalar s is passes none) = record { value = s; is = is; passes = passes }
 alone_by flat number text n parts (Fit.is_array items item is e are) = absurd (not_some item e)
 alone_by flat number text n parts (Fit.is_object ms is e are) = absurd cc
 
-pub alone : (flat : Bool) (number : ℤ → Bool) (text : List ℕ → Bool) (n : Node) (parts : List Part) →
-    parts_by (scalars flat number text) (out-Node n) ≡ Some parts → Alone (scalars flat number text) n
+pub alone : (flat : Bool) (number : ℤ → Bool) (text : List ℕ → Bool) (n : Node) (parts : List ShapedNode) →
+    children_by (scalars flat number text) (out-Node n) ≡ Some parts → Alone (scalars flat number text) n
 alone flat number text n parts e = alone_by flat number text n parts (fit (scalars flat number text) n parts e)
 
 -- an array with these parts
-pub record Several (item : Shape) (n : Node) (parts : List Part) : Type 0 where
+pub record Several (item : Shape) (n : Node) (parts : List ShapedNode) : Type 0 where
   pub items : List Node
   pub is : n ≡ node.Items items
   pub are : parts ≡ item_parts item items
 
-several_by : (item : Shape) (flat : Bool) (number : ℤ → Bool) (text : List ℕ → Bool) (n : Node) (parts : List Part) →
+several_by : (item : Shape) (flat : Bool) (number : ℤ → Bool) (text : List ℕ → Bool) (n : Node) (parts : List ShapedNode) →
     Fit (scalars_or item flat number text) n parts → Alone (scalars flat number text) n ⊎ Several item n parts
 several_by item flat number text n parts (Fit.is_scalar s is passes none) =
     inl (record { value = s; is = is; passes = as_alone s passes })
@@ -122,8 +122,8 @@ several_by item flat number text n parts (Fit.is_array items other is e are) = i
 })
 several_by item flat number text n parts (Fit.is_object ms is e are) = absurd cc
 
-pub several : (item : Shape) (flat : Bool) (number : ℤ → Bool) (text : List ℕ → Bool) (n : Node) (parts : List Part) →
-    parts_by (scalars_or item flat number text) (out-Node n) ≡ Some parts →
+pub several : (item : Shape) (flat : Bool) (number : ℤ → Bool) (text : List ℕ → Bool) (n : Node) (parts : List ShapedNode) →
+    children_by (scalars_or item flat number text) (out-Node n) ≡ Some parts →
     Alone (scalars flat number text) n ⊎ Several item n parts
 several item flat number text n parts e =
     several_by item flat number text n parts (fit (scalars_or item flat number text) n parts e)
@@ -136,7 +136,7 @@ no_scalar array (scalar.Bool b) e = cc
 no_scalar array (scalar.Num units) e = cc
 no_scalar array (scalar.Text text) e = cc
 
-array_by : (array : List Node → Option Shape) (wanted : Shape) (n : Node) (parts : List Part) →
+array_by : (array : List Node → Option Shape) (wanted : Shape) (n : Node) (parts : List ShapedNode) →
     ((items : List Node) (item : Shape) → array items ≡ Some item → item ≡ wanted) → Fit (arrays array) n parts →
     Several wanted n parts
 array_by array wanted n parts only (Fit.is_scalar s is passes none) = absurd (no_scalar array s passes)
@@ -147,15 +147,15 @@ array_by array wanted n parts only (Fit.is_array items item is e are) = record {
 }
 array_by array wanted n parts only (Fit.is_object ms is e are) = absurd cc
 
-pub array_of : (array : List Node → Option Shape) (wanted : Shape) (n : Node) (parts : List Part) →
+pub array_of : (array : List Node → Option Shape) (wanted : Shape) (n : Node) (parts : List ShapedNode) →
     ((items : List Node) (item : Shape) → array items ≡ Some item → item ≡ wanted) →
-    parts_by (arrays array) (out-Node n) ≡ Some parts → Several wanted n parts
+    children_by (arrays array) (out-Node n) ≡ Some parts → Several wanted n parts
 array_of array wanted n parts only e = array_by array wanted n parts only (fit (arrays array) n parts e)
 
 -- ---- objects
 
 -- an object that fits, with these parts
-pub record Object (member : List ℕ → Option Shape) (members : List Member → Bool) (n : Node) (parts : List Part) :
+pub record Object (member : List ℕ → Option Shape) (members : List Member → Bool) (n : Node) (parts : List ShapedNode) :
     Type 0 where
   pub values : List Member
   pub is : n ≡ node.Members values
@@ -170,7 +170,7 @@ no_value member members (scalar.Bool b) e = cc
 no_value member members (scalar.Num units) e = cc
 no_value member members (scalar.Text text) e = cc
 
-object_by : (member : List ℕ → Option Shape) (members : List Member → Bool) (n : Node) (parts : List Part) →
+object_by : (member : List ℕ → Option Shape) (members : List Member → Bool) (n : Node) (parts : List ShapedNode) →
     Fit (objects member members) n parts → Object member members n parts
 object_by member members n parts (Fit.is_scalar s is passes none) = absurd (no_value member members s passes)
 object_by member members n parts (Fit.is_array items item is e are) = absurd (not_some item e)
@@ -178,8 +178,8 @@ object_by member members n parts (Fit.is_object ms is e are) =
     let both = and_parts (members ms) (list_all (λ (m : Member). is_some (member m.0)) ms) e in
     record { values = ms; is = is; complete = both.0; known = both.1; are = are }
 
-pub object_of : (member : List ℕ → Option Shape) (members : List Member → Bool) (n : Node) (parts : List Part) →
-    parts_by (objects member members) (out-Node n) ≡ Some parts → Object member members n parts
+pub object_of : (member : List ℕ → Option Shape) (members : List Member → Bool) (n : Node) (parts : List ShapedNode) →
+    children_by (objects member members) (out-Node n) ≡ Some parts → Object member members n parts
 object_of member members n parts e = object_by member members n parts (fit (objects member members) n parts e)
 
 -- ---- texts
@@ -217,7 +217,7 @@ known_count asked (m ∷ ms) all =
     let both = and_parts (is_some (asked m.0)) (list_all (λ (k : Member). is_some (asked k.0)) ms) all in
     one_known asked m ms (asked m.0) both.0 (known_count asked ms both.1)
 
-count_by : (rule : Rule) (n : Node) (parts : List Part) → Fit rule n parts → node_count n ≡ number_behind parts
+count_by : (rule : Rule) (n : Node) (parts : List ShapedNode) → Fit rule n parts → node_count n ≡ number_behind parts
 count_by rule n parts (Fit.is_scalar s is passes none) =
     ap node_count is ∙ scalar_count s ∙ sym (ap number_behind none)
 count_by rule n parts (Fit.is_array items item is e are) =
@@ -228,6 +228,6 @@ count_by rule n parts (Fit.is_object ms is e are) =
     ∙ sym (ap number_behind are)
 
 -- a node that fits a shape holds itself and the nodes of its parts
-pub count_of_parts : (wanted : Shape) (n : Node) (parts : List Part) → parts_of wanted n ≡ Some parts →
+pub count_of_parts : (wanted : Shape) (n : Node) (parts : List ShapedNode) → shaped_children wanted n ≡ Some parts →
     node_count n ≡ number_behind parts
 count_of_parts wanted n parts fits = count_by (rule_of wanted) n parts (fit (rule_of wanted) n parts fits)

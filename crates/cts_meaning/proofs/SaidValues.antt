@@ -1,4 +1,4 @@
--- What stands in the values of an argument object without faults.
+-- What the values of an argument object without faults hold.
 use Rattle.std.proofs.Common.{◌≡◌, ℕ, ℤ, ◌≤◌, ◌⊎◌, ◌||◌, inl, inr, ⊎_elim, Bool, true, false, cond, List, [], ◌∷◌, map, Option, Some, None, is_some, refl, sym, ap, subst, ◌∙◌}
 use Rattle.std.proofs.lemmas.Bool.{or_cases}
 use Rattle.std.proofs.lemmas.Slice.Eq.{bytes_eq-Decides}
@@ -12,8 +12,8 @@ use Rattle.doc_model.specs.declared.scalar.Scalar.{Scalar}
 use Rattle.doc_model.specs.declared.scalar.Scalar.TheVariants as scalar
 use Rattle.json_text.specs.Grammar.{Member}
 use Rattle.cts_meaning.specs.Faults.{AreFaultless, IsFaultless}
-use Rattle.cts_meaning.specs.Saying.{AreOptions, AreScalars, AreTexts, AreValues, IsCompare, IsDepth, IsDistance, value_of}
-use Rattle.cts_meaning.specs.Shapes.{Part, compare_named, compare_text, greatest_distance, has_rivals, is_option, item_parts, parts_by, rule_of, scalar_node, texts, whole, whole_within}
+use Rattle.cts_meaning.specs.Saying.{AreOptions, AreScalars, AreTexts, AreValuesOf, IsCompare, IsDepth, IsDistance, value_of}
+use Rattle.cts_meaning.specs.Shapes.{ShapedNode, compare_named, compare_text, greatest_distance, has_rivals, is_option, item_parts, children_by, rule_of, scalar_node, texts, whole, whole_within}
 use Rattle.cts_meaning.specs.declared.shape.OptionKind.{OptionKind}
 use Rattle.cts_meaning.specs.declared.shape.Shape.{Shape}
 use Rattle.cts_meaning.specs.declared.shape.Shape.TheVariants as shape
@@ -37,21 +37,21 @@ module _ {A : Type 0} (spelled : A → Node) (item : Shape)
         ap (λ (n : Node). n ∷ items) first.1 ∙ ap (λ (ns : List Node). spelled first.0 ∷ ns) more.1,
       )
 
-  array_read : (n : Node) (parts : List Part) → Several item n parts → AreFaultless parts →
+  array_read : (n : Node) (parts : List ShapedNode) → Several item n parts → AreFaultless parts →
       (values : List A) × (n ≡ node.Items (map spelled values))
   array_read n parts array clean =
       let all = all_read array.items (subst AreFaultless array.are clean) in
       (all.0, array.is ∙ ap node.Items all.1)
 
   -- one value alone, or an array of them
-  some_read : (n : Node) (parts : List Part) → ((a : A) × (n ≡ spelled a)) ⊎ Several item n parts →
-      AreFaultless parts → (values : List A) × AreValues spelled (Some n) values
+  some_read : (n : Node) (parts : List ShapedNode) → ((a : A) × (n ≡ spelled a)) ⊎ Several item n parts →
+      AreFaultless parts → (values : List A) × AreValuesOf spelled (Some n) values
   some_read n parts (inl (a, is)) clean = (a ∷ [], inl (a, ap (λ (m : Node). Some m) is, refl))
   some_read n parts (inr array) clean =
       let all = array_read n parts array clean in (all.0, inr (ap (λ (m : Node). Some m) all.1))
 
 -- a text that passes a test is one
-text_of : (test : List ℕ → Bool) (n : Node) (parts : List Part) → parts_by (texts test) (out-Node n) ≡ Some parts →
+text_of : (test : List ℕ → Bool) (n : Node) (parts : List ShapedNode) → children_by (texts test) (out-Node n) ≡ Some parts →
     (text : List ℕ) × (n ≡ node.Text text) × (test text ≡ true)
 text_of test n parts fits =
     text_alone test n (alone false (λ units. false) test n parts fits)

@@ -1,4 +1,4 @@
--- What stands in a member's value is one thing.
+-- A member's value holds one thing.
 use Rattle.std.proofs.Common.{◌≡◌, ℕ, pos, ◌*◌, ◌^◌, ◌<◌, inl, inr, Bool, true, false, cond, eqb, List, [], ◌∷◌, map, Option, Some, None, refl, sym, ap, ◌∙◌, eq-eqb, ne_eqb, arith}
 use Rattle.std.proofs.lemmas.Bool.{cond-false, cond-true}
 use Rattle.std.specs.Prelude.{codes}
@@ -7,7 +7,7 @@ use Rattle.doc_model.specs.declared.node.Node.{Node}
 use Rattle.doc_model.specs.declared.node.Node.TheVariants as node
 use Rattle.doc_model.specs.declared.query.Compare.{Compare}
 use Rattle.doc_model.specs.declared.scalar.Scalar.{Scalar}
-use Rattle.cts_meaning.specs.Saying.{AreOptions, AreScalars, AreTexts, AreValues, IsCompare, IsDepth, IsDistance, depth_text}
+use Rattle.cts_meaning.specs.Saying.{AreOptions, AreScalars, AreTexts, AreValuesOf, IsCompare, IsDepth, IsDistance, depth_text}
 use Rattle.cts_meaning.specs.Shapes.{compare_text, scalar_node, whole}
 use Rattle.cts_meaning.proofs.Named.{same_compare, same_some}
 use Rattle.cts_meaning.proofs.Nodes.{items_in, items_in_array, number_in, number_in_number, sort_items, sort_of, sort_text, text_in, text_in_string}
@@ -40,12 +40,12 @@ module _ {A : Type 0} (spelled : A → Node) (back : Node → A) (again : (a : A
       (eq-eqb (sort_of n) 4 (sort_items (map spelled values)))
       ∙ ap (map back) (items_in_array (map spelled values)) ∙ map_again values
 
-  values_are : (found : Option Node) (values : List A) → AreValues spelled found values → read found ≡ values
+  values_are : (found : Option Node) (values : List A) → AreValuesOf spelled found values → read found ≡ values
   values_are found values (inl (value, is, only)) = ap read is ∙ read_alone value ∙ sym only
   values_are found values (inr is) = ap read is ∙ read_array values
 
-  one_values : (found : Option Node) (values others : List A) → AreValues spelled found values →
-      AreValues spelled found others → values ≡ others
+  one_values : (found : Option Node) (values others : List A) → AreValuesOf spelled found values →
+      AreValuesOf spelled found others → values ≡ others
   one_values found values others are also =
       sym (values_are found values are) ∙ values_are found others also
 

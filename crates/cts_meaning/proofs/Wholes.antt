@@ -2,7 +2,7 @@
 use Rattle.std.proofs.Common.{◌≡◌, ℕ, ℤ, pos, negsuc, ◌*◌, ◌/◌, ◌%◌, ◌^◌, ◌≤◌, ◌&&◌, ◌==◌, Bool, true, false, cond, Option, Some, None, refl, ap, ◌∙◌, arith, leb-true, le-leb, eqb-true, eq-eqb}
 use Rattle.std.proofs.lemmas.Bool.{and_from, and_parts}
 use Rattle.std.specs.Prelude.{nat_le}
-use Rattle.cts_meaning.specs.Shapes.{whole_units, whole_within}
+use Rattle.cts_meaning.specs.Shapes.{distance_units, whole_within}
 use Rattle.cts_meaning.proofs.Named.{not_some, same_some}
 
 abbrev nat_of : ℤ → ℕ
@@ -16,7 +16,7 @@ some_if : (b : Bool) (x k : ℕ) → cond b (Some x) None ≡ Some k → (b ≡ 
 some_if true x k e = (refl, same_some x k e)
 some_if false x k e = absurd (not_some k e)
 
-units_are : (most units k : ℕ) → whole_units most units ≡ Some k → (k ≤ most) × (units ≡ k * 10 ^ 18)
+units_are : (most units k : ℕ) → distance_units most units ≡ Some k → (k ≤ most) × (units ≡ k * 10 ^ 18)
 units_are most units k e =
     let found = some_if ((units % 10 ^ 18 == 0) && nat_le (units / 10 ^ 18) most) (units / 10 ^ 18) k e in
     let parts = and_parts (units % 10 ^ 18 == 0) (nat_le (units / 10 ^ 18) most) found.0 in

@@ -19,7 +19,7 @@ use Rattle.cts_meaning.specs.Canonical.{case_options, option_if, scalars_node, t
 use Rattle.cts_meaning.specs.Faults.{AreFaultless, IsFaultless}
 use Rattle.cts_meaning.specs.Kinds.{text_by}
 use Rattle.cts_meaning.specs.Saying.{case_of, depth_text}
-use Rattle.cts_meaning.specs.Shapes.{both_cases, both_orders, compare_text, greatest_distance, has_rivals, has_text, is_option, is_text, item_parts, no_parts, parts_by, parts_of, rule_of, scalar_node, whole}
+use Rattle.cts_meaning.specs.Shapes.{both_cases, both_orders, compare_text, greatest_distance, has_rivals, has_text, is_option, is_text, item_parts, no_parts, children_by, shaped_children, rule_of, scalar_node, whole}
 use Rattle.cts_meaning.specs.declared.shape.OptionKind.{OptionKind}
 use Rattle.cts_meaning.specs.declared.shape.OptionKind.TheVariants as options
 use Rattle.cts_meaning.specs.declared.shape.Shape.{Shape}
@@ -30,19 +30,19 @@ use Rattle.cts_meaning.proofs.Nodes.{out_bool, out_items, out_null, out_number, 
 use Rattle.cts_meaning.proofs.Wholes.{whole_back}
 
 -- a node that fits without parts has no fault
-leaf_clean : (wanted : Shape) (n : Node) → parts_of wanted n ≡ Some [] → IsFaultless wanted n
+leaf_clean : (wanted : Shape) (n : Node) → shaped_children wanted n ≡ Some [] → IsFaultless wanted n
 leaf_clean wanted n fits = faultless_of wanted n [] fits tt
 
 text_fits : (wanted : Shape) (text : List ℕ) → (rule_of wanted).text text ≡ true →
     IsFaultless wanted (node.Text text)
 text_fits wanted text fits = leaf_clean wanted (node.Text text)
-    (ap (parts_by (rule_of wanted)) (out_text text) ∙ ap (λ (b : Bool). cond b (Some []) None) fits)
+    (ap (children_by (rule_of wanted)) (out_text text) ∙ ap (λ (b : Bool). cond b (Some []) None) fits)
 
 -- an array that fits has no fault where its items have none
 array_fits : (wanted item : Shape) (items : List Node) → (rule_of wanted).array items ≡ Some item →
     AreFaultless (item_parts item items) → IsFaultless wanted (node.Items items)
 array_fits wanted item items fits clean = faultless_of wanted (node.Items items) (item_parts item items)
-    (ap (parts_by (rule_of wanted)) (out_items items)
+    (ap (children_by (rule_of wanted)) (out_items items)
     ∙ ap (λ (o : Option Shape). option_map (λ k. item_parts k items) o) fits) clean
 
 module _ {A : Type 0} (spelled : A → Node) (item : Shape) where
@@ -66,9 +66,9 @@ texts_clean texts = array_fits shape.Texts shape.Text (map node.Text texts) refl
     (all_clean node.Text shape.Text text_clean texts)
 
 scalar_clean : (s : Scalar) → IsFaultless shape.Scalar (scalar_node s)
-scalar_clean scalar.Null = leaf_clean shape.Scalar node.Null (ap (parts_by (rule_of shape.Scalar)) out_null)
-scalar_clean (scalar.Bool b) = leaf_clean shape.Scalar (node.Bool b) (ap (parts_by (rule_of shape.Scalar)) (out_bool b))
-scalar_clean (scalar.Num k) = leaf_clean shape.Scalar (node.Num k) (ap (parts_by (rule_of shape.Scalar)) (out_number k))
+scalar_clean scalar.Null = leaf_clean shape.Scalar node.Null (ap (children_by (rule_of shape.Scalar)) out_null)
+scalar_clean (scalar.Bool b) = leaf_clean shape.Scalar (node.Bool b) (ap (children_by (rule_of shape.Scalar)) (out_bool b))
+scalar_clean (scalar.Num k) = leaf_clean shape.Scalar (node.Num k) (ap (children_by (rule_of shape.Scalar)) (out_number k))
 scalar_clean (scalar.Text text) = text_fits shape.Scalar text refl
 
 pub scalars_clean : (values : List Scalar) → IsFaultless shape.Scalars (scalars_node values)
@@ -82,7 +82,7 @@ comparable_clean : (s : Scalar) → is_ordered s ≡ true → IsFaultless shape.
 comparable_clean scalar.Null ordered = absurd cc
 comparable_clean (scalar.Bool b) ordered = absurd cc
 comparable_clean (scalar.Num k) ordered =
-    leaf_clean shape.Comparable (node.Num k) (ap (parts_by (rule_of shape.Comparable)) (out_number k))
+    leaf_clean shape.Comparable (node.Num k) (ap (children_by (rule_of shape.Comparable)) (out_number k))
 comparable_clean (scalar.Text text) ordered = text_fits shape.Comparable text refl
 
 pub comparables_clean : (values : List Scalar) → list_all is_ordered values ≡ true →
@@ -96,7 +96,7 @@ compare_clean op = text_fits shape.Compare (compare_text op)
 
 pub distance_clean : (distance : ℕ) → distance ≤ greatest_distance → IsFaultless shape.Distance (whole distance)
 distance_clean distance small = leaf_clean shape.Distance (whole distance)
-    (ap (parts_by (rule_of shape.Distance)) (out_number (pos (distance * 10 ^ 18)))
+    (ap (children_by (rule_of shape.Distance)) (out_number (pos (distance * 10 ^ 18)))
     ∙ ap (λ (o : Option ℕ). no_parts (is_some o)) (whole_back greatest_distance distance small))
 
 pub infinity_clean : IsFaultless shape.Depth (node.Text (depth_text true))

@@ -4,7 +4,7 @@ use Rattle.std.specs.Prelude.{ℕ, ◌≡◌, ◌+◌, ◌≤◌, List, [], ◌�
 use Rattle.doc_model.specs.declared.node.Node.{Node}
 use Rattle.doc_model.specs.declared.node.Node.TheOpen.{Node-F}
 use Rattle.doc_model.specs.declared.node.Node.TheFolds.{fold-Node}
-use Rattle.cts_meaning.specs.Shapes.{Part, parts_of}
+use Rattle.cts_meaning.specs.Shapes.{ShapedNode, shaped_children}
 use Rattle.cts_meaning.specs.declared.shape.Shape.{Shape}
 use Rattle.cts_meaning.specs.declared.shape.Shape.TheVariants.{Query}
 
@@ -21,16 +21,16 @@ abbrev pub node_count : Node → ℕ
 node_count = fold-Node ℕ count_step
 
 -- the number of the part behind these, counted from the node whose parts they are
-abbrev pub number_behind : List Part → ℕ
+abbrev pub number_behind : List ShapedNode → ℕ
 number_behind before = 1 + sum_by (λ part. node_count part.1) before
 
 -- of a node that is judged as a shape, this number, counted from the node on, is that of a faulty one: of the node
 -- itself, where it doesn't fit; or else of one in a part of it, judged as the part's shape. So nothing below a faulty
 -- node is judged
 pub data FaultIn : Shape → Node → ℕ → Type 0 where
-  here : (shape : Shape) (n : Node) (number : ℕ) → parts_of shape n ≡ None → number ≡ 0 → FaultIn shape n number
-  inside : (shape : Shape) (n : Node) (number : ℕ) (before behind : List Part) (part : Part) (inner : ℕ)
-      → parts_of shape n ≡ Some (before ++ part ∷ behind) → FaultIn part.0 part.1 inner
+  here : (shape : Shape) (n : Node) (number : ℕ) → shaped_children shape n ≡ None → number ≡ 0 → FaultIn shape n number
+  inside : (shape : Shape) (n : Node) (number : ℕ) (before behind : List ShapedNode) (part : ShapedNode) (inner : ℕ)
+      → shaped_children shape n ≡ Some (before ++ part ∷ behind) → FaultIn part.0 part.1 inner
       → number ≡ number_behind before + inner → FaultIn shape n number
 
 -- nothing in the node is faulty
@@ -38,7 +38,7 @@ abbrev pub IsFaultless : Shape → Node → Type 0
 IsFaultless shape n = (number : ℕ) → FaultIn shape n number → ⊥
 
 -- nor in any of the parts
-abbrev pub AreFaultless : List Part → Type 0
+abbrev pub AreFaultless : List ShapedNode → Type 0
 AreFaultless [] = Unit {0}
 AreFaultless (part ∷ parts) = IsFaultless part.0 part.1 × AreFaultless parts
 

@@ -24,16 +24,16 @@ abbrev pub value_of : List ℕ → List Member → Option Node
 value_of name members = option_map (λ m. m.1) (find (λ m. bytes_eq m.0 name) members)
 
 -- one value alone, or an array of values
-abbrev pub AreValues : {A : Type 0} → (A → Node) → Option Node → List A → Type 0
-AreValues {A} spelled found values =
+abbrev pub AreValuesOf : {A : Type 0} → (A → Node) → Option Node → List A → Type 0
+AreValuesOf {A} spelled found values =
     ((value : A) × (found ≡ Some (spelled value)) × (values ≡ value ∷ []))
     ⊎ (found ≡ Some (node.Items (map spelled values)))
 
 abbrev pub AreTexts : Option Node → List (List ℕ) → Type 0
-AreTexts = AreValues node.Text
+AreTexts = AreValuesOf node.Text
 
 abbrev pub AreScalars : Option Node → List Scalar → Type 0
-AreScalars = AreValues scalar_node
+AreScalars = AreValuesOf scalar_node
 
 -- the options, none where there is no such member
 abbrev pub AreOptions : Option Node → List (List ℕ) → Type 0

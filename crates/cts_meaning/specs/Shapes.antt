@@ -1,4 +1,4 @@
--- The JSON of queries: its forms, the members that each holds, and what may stand in each place.
+-- The JSON of queries: its forms, the members of each, and what each member may hold.
 use Rattle.std.specs.Prelude.{ℕ, ℤ, pos, negsuc, ◌*◌, ◌/◌, ◌%◌, ◌^◌, ◌==◌, ◌&&◌, ◌||◌, nat_le, Bool, true, false, nat_eq, List, [], ◌∷◌, map, length, Option, Some, None, is_some, codes, if◌then◌else◌}
 use Rattle.std.specs.List.{find, flat_map, list_all, list_any, starts_with}
 use Rattle.std.specs.Option.{option_map, option_map_or, option_to_list}
@@ -112,12 +112,12 @@ abbrev pub whole : ℕ → Node
 whole k = node.Num (pos (k * 10 ^ 18))
 
 -- the whole number that so many units of 10^-18 are, if it is at most this
-abbrev pub whole_units : ℕ → ℕ → Option ℕ
-whole_units most units =
+abbrev pub distance_units : ℕ → ℕ → Option ℕ
+distance_units most units =
     if (units % 10 ^ 18 == 0) && nat_le (units / 10 ^ 18) most then Some (units / 10 ^ 18) else None
 
 abbrev pub whole_within : ℕ → ℤ → Option ℕ
-whole_within most (pos units) = whole_units most units
+whole_within most (pos units) = distance_units most units
 whole_within most (negsuc n) = None
 
 -- the greatest distance
@@ -135,7 +135,7 @@ both_orders = codes "ordered" ∷ codes "unordered" ∷ []
 abbrev pub is_language : List ℕ → Bool
 is_language text = starts_with nat_eq text (codes "lang=")
 
--- an option that may stand there
+-- an option of this kind
 abbrev pub is_option : OptionKind → List ℕ → Bool
 is_option options.Word text = is_among both_cases text || is_language text
 is_option options.Value text = is_among both_cases text || bytes_eq text (codes "exact") || is_language text
@@ -154,8 +154,8 @@ abbrev pub has_rivals : List Node → Bool
 has_rivals items = list_all (has_text items) both_cases || list_all (has_text items) both_orders
 
 -- a node, and the shape as which it is judged
-abbrev pub Part : Type 0
-Part = Shape × Node
+abbrev pub ShapedNode : Type 0
+ShapedNode = Shape × Node
 
 -- what fits in a place: null and booleans; which numbers and texts; which arrays, with what their items are to be;
 -- which objects, with what the members of a name are to be
@@ -241,14 +241,14 @@ rule_of (shape.Options kind) = arrays (λ items. if has_rivals items then None e
 rule_of (shape.Option kind) = texts (is_option kind)
 
 -- the items of an array, each judged as this shape
-abbrev pub item_parts : Shape → List Node → List Part
+abbrev pub item_parts : Shape → List Node → List ShapedNode
 item_parts item items = map (λ i. (item, i)) items
 
 -- the values of members, each judged as what its name asks
-abbrev pub member_part : (List ℕ → Option Shape) → Member → List Part
+abbrev pub member_part : (List ℕ → Option Shape) → Member → List ShapedNode
 member_part asked member = option_to_list (option_map (λ part. (part, member.1)) (asked member.0))
 
-abbrev pub member_parts : (List ℕ → Option Shape) → List Member → List Part
+abbrev pub member_parts : (List ℕ → Option Shape) → List Member → List ShapedNode
 member_parts asked members = flat_map (member_part asked) members
 
 -- no member has an unknown name, and none is missing
@@ -256,23 +256,23 @@ abbrev pub fits_object : Rule → List Member → Bool
 fits_object rule members = rule.members members && list_all (λ m. is_some (rule.member m.0)) members
 
 -- the parts of a scalar, an array and an object that fit
-abbrev pub no_parts : Bool → Option (List Part)
+abbrev pub no_parts : Bool → Option (List ShapedNode)
 no_parts fits = if fits then Some [] else None
 
-abbrev pub array_parts : Rule → List Node → Option (List Part)
+abbrev pub array_parts : Rule → List Node → Option (List ShapedNode)
 array_parts rule items = option_map (λ item. item_parts item items) (rule.array items)
 
-abbrev pub object_parts : Rule → List Member → Option (List Part)
+abbrev pub object_parts : Rule → List Member → Option (List ShapedNode)
 object_parts rule members = if fits_object rule members then Some (member_parts rule.member members) else None
 
-abbrev pub parts_by : Rule → Node-F Node → Option (List Part)
-parts_by rule Node-F.Null = no_parts rule.flat
-parts_by rule (Node-F.Bool b) = no_parts rule.flat
-parts_by rule (Node-F.Num units) = no_parts (rule.number units)
-parts_by rule (Node-F.Text text) = no_parts (rule.text text)
-parts_by rule (Node-F.Items items) = array_parts rule items
-parts_by rule (Node-F.Members members) = object_parts rule members
+abbrev pub children_by : Rule → Node-F Node → Option (List ShapedNode)
+children_by rule Node-F.Null = no_parts rule.flat
+children_by rule (Node-F.Bool b) = no_parts rule.flat
+children_by rule (Node-F.Num units) = no_parts (rule.number units)
+children_by rule (Node-F.Text text) = no_parts (rule.text text)
+children_by rule (Node-F.Items items) = array_parts rule items
+children_by rule (Node-F.Members members) = object_parts rule members
 
 -- the parts of a node that fits its shape, each with the shape as which it is judged, whatever these parts are
-abbrev pub parts_of : Shape → Node → Option (List Part)
-parts_of shape n = parts_by (rule_of shape) (out-Node n)
+abbrev pub shaped_children : Shape → Node → Option (List ShapedNode)
+shaped_children shape n = children_by (rule_of shape) (out-Node n)

@@ -1,4 +1,5 @@
-// Laws of what the JSON of queries says, each as the contract of a function that does nothing.
+//! Laws of what the JSON of queries says, each as the contract of a function that does nothing.
+
 ghost use Rattle.cts_meaning.specs.Laws.{CanonicalTextsAreRead, EachTreeIsJudged, FaultsLieInside, OneQueryIsSaid};
 
 /// A tree is one query at most.

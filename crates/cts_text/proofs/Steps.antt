@@ -8,14 +8,14 @@ use Rattle.std.specs.Option.{option_map, option_to_list}
 use Rattle.doc_model.specs.declared.node.Node.{Node}
 use Rattle.doc_model.specs.declared.query.Query.{Query}
 use Rattle.json_text.specs.Grammar.{Member}
-use Rattle.cts_meaning.specs.Shapes.{item_parts, member_parts, Part}
+use Rattle.cts_meaning.specs.Shapes.{item_parts, member_parts, ShapedNode}
 use Rattle.cts_meaning.specs.declared.shape.Shape.{Shape}
 use Rattle.cts_text.specs.Judging.{Judges, JudgesParts}
 use Rattle.cts_text.specs.Saids.{AreSaid, IsSaid}
 use Rattle.cts_text.proofs.Told.{cons_said, none_said}
 use Rattle.cts_text.proofs.Walk.{judged_more, judged_none, judged_stop}
 
--- the next element stands before the others, in a list and in the slice of it that is gone over
+-- the next element is before the others, in a list and in the slice of it that a loop goes over
 pub drop_step : {X : Type 0} (xs slice : List X) (i : ℕ) (x : X) → slice ≡ xs → i < length slice →
     x ≡ get_or slice i x →
     drop i xs ≡ x ∷ drop (i + 1) xs
@@ -41,25 +41,25 @@ weight_within {X} weight xs slice i x same lt is =
     (subst (λ (y : X). weight y ≤ most weight slice) (sym is) (at_most weight slice i x lt))
 
 -- what the rest of the parts gives is what all of them give
-abbrev pub Goes : List Part → ℕ → List Part → ℕ → Type 0
+abbrev pub Goes : List ShapedNode → ℕ → List ShapedNode → ℕ → Type 0
 Goes rest next all number = (answer : Result ℕ ℕ) → JudgesParts rest next answer → JudgesParts all number answer
 
-goes_more : (part : Part) (rest parts all : List Part) (next later number : ℕ) → parts ≡ part ∷ rest →
+goes_more : (part : ShapedNode) (rest parts all : List ShapedNode) (next later number : ℕ) → parts ≡ part ∷ rest →
     Goes parts next all number → Judges part.0 part.1 next (Ok later) → Goes rest later all number
 goes_more part rest parts all next later number is goes one answer more =
-    goes answer (subst (λ (ps : List Part). JudgesParts ps next answer) (sym is)
+    goes answer (subst (λ (ps : List ShapedNode). JudgesParts ps next answer) (sym is)
     (judged_more part rest next later answer one more))
 
-goes_stop : (part : Part) (rest parts all : List Part) (next faulty number : ℕ) → parts ≡ part ∷ rest →
+goes_stop : (part : ShapedNode) (rest parts all : List ShapedNode) (next faulty number : ℕ) → parts ≡ part ∷ rest →
     Goes parts next all number → Judges part.0 part.1 next (Err faulty) → JudgesParts all number (Err faulty)
 goes_stop part rest parts all next faulty number is goes one =
-    goes (Err faulty) (subst (λ (ps : List Part). JudgesParts ps next (Err faulty)) (sym is)
+    goes (Err faulty) (subst (λ (ps : List ShapedNode). JudgesParts ps next (Err faulty)) (sym is)
     (judged_stop part rest next faulty one))
 
-pub goes_end : (parts all : List Part) (next number : ℕ) → parts ≡ [] → Goes parts next all number →
+pub goes_end : (parts all : List ShapedNode) (next number : ℕ) → parts ≡ [] → Goes parts next all number →
     JudgesParts all number (Ok next)
 goes_end parts all next number is goes =
-    goes (Ok next) (subst (λ (ps : List Part). JudgesParts ps next (Ok next)) (sym is) (judged_none next))
+    goes (Ok next) (subst (λ (ps : List ShapedNode). JudgesParts ps next (Ok next)) (sym is) (judged_none next))
 
 -- ---- items
 
@@ -84,7 +84,7 @@ module _ (wanted : Shape) (items slice : List Node) (i : ℕ) (item : Node) (nex
 module _ (asked : List ℕ → Option Shape) (members slice : List Member) (i : ℕ) (member : Member) (next number : ℕ)
     (same : slice ≡ members) (lt : i < length slice) (is : member ≡ get_or slice i member)
     (goes : Goes (member_parts asked (drop i members)) next (member_parts asked members) number) where
-  abbrev parts_with : Option Shape → List Part
+  abbrev parts_with : Option Shape → List ShapedNode
   parts_with o = option_to_list (option_map (λ part. (part, member.1)) o) ++ member_parts asked (drop (i + 1) members)
 
   split_member : (o : Option Shape) → asked member.0 ≡ o →
@@ -94,7 +94,7 @@ module _ (asked : List ℕ → Option Shape) (members slice : List Member) (i : 
   pub members_skip : asked member.0 ≡ None →
       Goes (member_parts asked (drop (i + 1) members)) next (member_parts asked members) number
   members_skip e answer more =
-      goes answer (subst (λ (ps : List Part). JudgesParts ps next answer) (sym (split_member None e)) more)
+      goes answer (subst (λ (ps : List ShapedNode). JudgesParts ps next answer) (sym (split_member None e)) more)
 
   pub members_more : (part : Shape) (later : ℕ) → asked member.0 ≡ Some part →
       Judges part member.1 next (Ok later) →

@@ -1,4 +1,4 @@
--- What a tree without faults says, from what stands in it.
+-- What a tree without faults says, from what it holds.
 use Rattle.std.proofs.Common.{◌≡◌, ℕ, zero, suc, List, [], ◌∷◌, Option, Some, None, refl, sym, ap, subst, ◌∙◌, ◌<◌, ◌≤◌, get_or, length, Result, Ok, Err, IfOk, arith}
 use Rattle.doc_model.specs.declared.node.Node.{Node}
 use Rattle.doc_model.specs.declared.node.Node.TheVariants as node
@@ -7,7 +7,7 @@ use Rattle.doc_model.specs.declared.query.Query.{Query}
 use Rattle.json_text.specs.Grammar.{Each, Member}
 use Rattle.cts_meaning.specs.Faults.{IsFaultless}
 use Rattle.cts_meaning.specs.Saying.{Says, SaysAs}
-use Rattle.cts_meaning.specs.Shapes.{form_name, form_named, item_parts, parts_by, rule_of}
+use Rattle.cts_meaning.specs.Shapes.{form_name, form_named, item_parts, children_by, rule_of}
 use Rattle.cts_meaning.specs.declared.form.QueryForm.{QueryForm}
 use Rattle.cts_meaning.specs.declared.shape.Shape.TheVariants as shape
 use Rattle.cts_meaning.proofs.Entries.{clean_argument}
@@ -81,7 +81,7 @@ pub array_said : (n : Node) (items : List Node) (r : List Query) → n ≡ node.
     AreSaidAt (Some n) r
 array_said n items r is are clean depth qs (others, at, says) =
     let inner = parts_faultless shape.Queries n (item_parts shape.Query items)
-    (ap (parts_by (rule_of shape.Queries)) (ap out-Node is ∙ out_items items)) (clean n refl) in
+    (ap (children_by (rule_of shape.Queries)) (ap out-Node is ∙ out_items items)) (clean n refl) in
     let same = sym (items_in_array items) ∙ ap items_in (sym is ∙ same_some n (node.Items others) at)
     ∙ items_in_array others in
     are inner depth qs (subst (λ (ns : List Node). Each (Says depth) ns qs) (sym same) says)

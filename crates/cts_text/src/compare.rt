@@ -1,4 +1,5 @@
-// The signs of comparisons, both ways.
+//! The signs of comparisons, both ways.
+
 ghost use Rattle.std.specs.Prelude.{◌≡◌};
 ghost use Rattle.cts_meaning.specs.Shapes.{compare_named, compare_text};
 

@@ -1,6 +1,7 @@
-// Whole numbers as distances, both ways.
+//! Whole numbers as distances, both ways.
+
 ghost use Rattle.std.specs.Prelude.{◌≡◌};
-ghost use Rattle.cts_meaning.specs.Shapes.{greatest_distance, whole, whole_units, whole_within};
+ghost use Rattle.cts_meaning.specs.Shapes.{greatest_distance, whole, distance_units, whole_within};
 
 use doc_model::{Dec, Node};
 
@@ -20,11 +21,11 @@ pub(crate) fn whole_distance(number: &Dec) -> Option<u32>
     if units < 0 {
         return None;
     }
-    whole_units(units.unsigned_abs())
+    distance_units(units.unsigned_abs())
 }
 
-fn whole_units(units: u128) -> Option<u32>
-    ensures { result ≡ whole_units greatest_distance units }
+fn distance_units(units: u128) -> Option<u32>
+    ensures { result ≡ distance_units greatest_distance units }
 {
     let whole = units / ONE;
     if units % ONE == 0 && whole <= MOST {

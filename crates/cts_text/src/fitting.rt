@@ -1,4 +1,5 @@
-// Whether a node itself fits a shape, whatever its parts are: the rules of the shapes.
+//! Whether a node itself fits a shape, whatever its parts are: the rules of the shapes.
+
 ghost use Rattle.std.specs.Prelude.{◌≡◌, is_some};
 ghost use Rattle.std.specs.List.{list_all};
 ghost use Rattle.cts_meaning.specs.Shapes.{fits_object, rule_of};

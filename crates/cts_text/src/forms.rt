@@ -1,5 +1,6 @@
-// The forms of queries by their names, and the members of their argument objects. Each form has a file of its own:
-// which members it has, what it says, and how it is written.
+//! The forms of queries by their names, and the members of their argument objects. Each form has a file of its own:
+//! which members it has, what it says, and how it is written.
+
 ghost use Rattle.std.specs.Prelude.{◌≡◌};
 ghost use Rattle.std.specs.List.{list_all};
 ghost use Rattle.cts_meaning.specs.Shapes.{field_shape, fields_of, form_name, form_named, is_given};

@@ -1,4 +1,5 @@
-// What a node holds, if it is of one kind.
+//! What a node holds, if it is of one kind.
+
 ghost use Rattle.std.specs.Prelude.{◌≡◌};
 ghost use Rattle.std.specs.Option.{option_copied};
 ghost use Rattle.cts_meaning.specs.Kinds.{items_in, number_in, text_in};

@@ -1,4 +1,5 @@
-// The canonical tree of a query.
+//! The canonical tree of a query.
+
 ghost use Rattle.std.specs.Prelude.{◌≡◌, map, IfOk, IsTrue, OnOk};
 ghost use Rattle.std.specs.List.{list_all};
 ghost use Rattle.cts_meaning.specs.Canonical.{has_distances, query_node};

@@ -1,4 +1,5 @@
-// Canonical objects, arrays and options.
+//! Canonical objects, arrays and options.
+
 ghost use Rattle.std.specs.Prelude.{◌≡◌, ◌++◌, ◌∷◌, [], map, IfOk, OnOk};
 ghost use Rattle.cts_meaning.specs.Canonical.{case_options, option_if, options_member, query_object, scalars_node, texts_node};
 ghost use Rattle.cts_meaning.specs.Shapes.{scalar_node};

@@ -1,4 +1,5 @@
-// The options of a query.
+//! The options of a query.
+
 ghost use Rattle.std.specs.Prelude.{◌≡◌};
 ghost use Rattle.doc_model.specs.Tree.{is_among};
 ghost use Rattle.cts_meaning.specs.Shapes.{both_cases, both_orders, has_rivals, has_text, is_language, is_option, is_text};
@@ -7,7 +8,7 @@ use crate::kinds::text_of;
 use cts_meaning::OptionKind;
 use doc_model::{Node, Nodes};
 
-/// Whether an option may stand there.
+/// Whether the options of this kind have this one.
 pub(crate) fn is_option(kind: OptionKind, text: &str) -> bool
     ensures { result ≡ is_option kind text.now }
 {

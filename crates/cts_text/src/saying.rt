@@ -1,15 +1,16 @@
-// What a tree without faults says. Of one with faults some query is made.
+//! The query that a tree without faults says. A tree with faults makes some query.
+
 ghost use Rattle.std.specs.Prelude.{◌≡◌, codes, IfOk, Some};
 ghost use Rattle.cts_meaning.specs.Saying.{value_of};
-ghost use Rattle.cts_meaning.specs.declared.form.QueryForm.TheVariants as form;
 ghost use Rattle.cts_text.specs.Saids.{AreSaid, AreSaidAt, IsSaid, IsSaidAs, IsSaidAt, IsSaidBy};
 ghost use Rattle.doc_model.specs.declared.node.Node.TheVariants as node;
 
-use crate::forms::{directory, form_named, prop_value, prop_word, range, uris, word};
-use crate::values::{distance_in, has_option};
+use crate::forms::{
+    and_not, and_or, directory, form_named, near, not_query, prop_value, prop_word, range, uris,
+    word,
+};
 use cts_meaning::QueryForm;
 use doc_model::{Members, Node, Nodes, Queries, Query};
-use sqlite_items::Boxed;
 use std::alloc::{AllocError, Global};
 
 /// The query that a tree says. It goes as deep as the tree.
@@ -23,7 +24,7 @@ pub(crate) fn query_of(alloc: Global, node: &Node) -> Result<Query, AllocError>
     }
 }
 
-/// The query of an object of one member.
+// The query of an object of one member.
 #[cycle(saying)]
 fn query_in(alloc: Global, members: &Members) -> Result<Query, AllocError>
     ensures { IfOk result (λ q. IsSaid (node.Members members.now) q) }
@@ -54,58 +55,24 @@ fn query_as(alloc: Global, form: QueryForm, members: &Members) -> Result<Query, 
     match form {
         QueryForm::True => Ok(Query::True),
         QueryForm::False => Ok(Query::False),
-        QueryForm::And => Ok(Query::And(queries_in(alloc, members)?)),
-        QueryForm::Or => Ok(Query::Or(queries_in(alloc, members)?)),
-        QueryForm::Not => not(alloc, members),
-        QueryForm::AndNot => and_not(alloc, members),
+        QueryForm::And => and_or::and(alloc, members),
+        QueryForm::Or => and_or::or(alloc, members),
+        QueryForm::Not => not_query::query(alloc, members),
+        QueryForm::AndNot => and_not::query(alloc, members),
         QueryForm::Word => word::query(alloc, members),
         QueryForm::PropWord => prop_word::query(alloc, members),
         QueryForm::PropValue => prop_value::query(alloc, members),
         QueryForm::Range => range::query(alloc, members),
-        QueryForm::Near => near(alloc, members),
+        QueryForm::Near => near::query(alloc, members),
         QueryForm::Collection => uris::collection(alloc, members),
         QueryForm::DocUri => uris::document(alloc, members),
         QueryForm::Directory => directory::query(alloc, members),
     }
 }
 
-#[cycle(saying)]
-fn not(alloc: Global, members: &Members) -> Result<Query, AllocError>
-    ensures { IfOk result (λ q. IsSaidAs form.Not members.now q) }
-{
-    let query = child(alloc, members, "query")?;
-    Ok(Query::Not(Boxed::new(alloc, query)?))
-}
-
-#[cycle(saying)]
-fn and_not(alloc: Global, members: &Members) -> Result<Query, AllocError>
-    ensures { IfOk result (λ q. IsSaidAs form.AndNot members.now q) }
-{
-    let positive = child(alloc, members, "positiveQuery")?;
-    let negative = child(alloc, members, "negativeQuery")?;
-    Ok(Query::AndNot {
-        positive: Boxed::new(alloc, positive)?,
-        negative: Boxed::new(alloc, negative)?,
-    })
-}
-
-#[cycle(saying)]
-fn near(alloc: Global, members: &Members) -> Result<Query, AllocError>
-    ensures { IfOk result (λ q. IsSaidAs form.Near members.now q) }
-{
-    let queries = queries_in(alloc, members)?;
-    let distance = distance_in(members);
-    let ordered = has_option(members, "ordered");
-    Ok(Query::Near {
-        queries,
-        distance,
-        ordered,
-    })
-}
-
 /// The query of the member of this name.
 #[cycle(saying)]
-fn child(alloc: Global, members: &Members, name: &str) -> Result<Query, AllocError>
+pub(crate) fn child(alloc: Global, members: &Members, name: &str) -> Result<Query, AllocError>
     ensures { IfOk result (λ q. IsSaidAt (value_of name.now members.now) q) }
 {
     for member in members.as_slice() {
@@ -116,9 +83,9 @@ fn child(alloc: Global, members: &Members, name: &str) -> Result<Query, AllocErr
     Ok(Query::False)
 }
 
-/// The queries of the member that is named so.
+/// The queries of the member `queries`.
 #[cycle(saying)]
-fn queries_in(alloc: Global, members: &Members) -> Result<Queries, AllocError>
+pub(crate) fn queries_in(alloc: Global, members: &Members) -> Result<Queries, AllocError>
     ensures { IfOk result (λ queries. AreSaidAt (value_of (codes "queries") members.now) queries) }
 {
     for member in members.as_slice() {

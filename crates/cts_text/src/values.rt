@@ -1,4 +1,5 @@
-// What the members of an argument object hold, of a tree without faults.
+//! What the members of an argument object hold, of a tree without faults.
+
 ghost use Rattle.std.specs.Prelude.{◌≡◌, ◌++◌, codes, map, IfOk, OnOk};
 ghost use Rattle.std.specs.List.{flat_map};
 ghost use Rattle.std.specs.Option.{option_copied};

@@ -8,12 +8,12 @@ use Rattle.disk_model.specs.declared.world.Client.{Client}
 use Rattle.disk_model.specs.declared.world.Store.{Store}
 use Rattle.disk_model.specs.declared.world.World
 use Rattle.disk_model.specs.declared.yard.Yard
-use Rattle.db_top.specs.Lending.{Lends, StandsIn}
+use Rattle.db_top.specs.Lending.{Lends, IsInDirectory}
 use Rattle.db_top.specs.Checking.{Checks}
 use Rattle.db_top.specs.Making.{Makes}
 use Rattle.db_top.specs.Runs.{ChecksIn, MakesIn, Reports, ServesClient, ServesIn}
 use Rattle.doc_meaning.specs.History.{BaseSettings}
-use Rattle.db_top.specs.Serving.{Serves}
+use Rattle.db_top.specs.Serving.{ServesStore}
 use Rattle.db_top.specs.Statuses.{lost_to, refused_as, status_of}
 use Rattle.db_top.specs.declared.status.Status.{Status}
 use Rattle.db_top.specs.declared.status.Status.TheVariants as status
@@ -50,10 +50,10 @@ pub poor_used : (s : Status) → s ≡ status.Memory → s ≢ status.Usage
 poor_used s is used = absurd (cc)
 
 -- what lending ends in isn't `usage`, where what was done meanwhile doesn't
-lends_used : {A : Type 0} (Does : A → A → Status → Type 0) (Stands : A → Type 0) (before now : ℕ) (old new : Handed A)
+lends_used : {A : Type 0} (Does : A → A → Status → Type 0) (Represents : A → Type 0) (before now : ℕ) (old new : Handed A)
     (given : A) (told : Option A) (result : Status) → ((after : A) (s : Status) → Does given after s → s ≢ status.Usage)
-    → Lends Does Stands before now old new given told result → result ≢ status.Usage
-lends_used Does Stands before now old new given told result used lends is =
+    → Lends Does Represents before now old new given told result → result ≢ status.Usage
+lends_used Does Represents before now old new given told result used lends is =
     let earlier : lends.earlier ≢ status.Usage = used lends.returned lends.earlier lends.does in
     elim lends.ends [
       | inl kept ↦ earlier (sym kept.2 ∙ is)
@@ -75,7 +75,7 @@ module _ {W D Y P I O F B : Type 0} (disk : Disk.Ghosts D) (yard : Yard.Ghosts Y
       elim makes.makes [ inl made ↦ absurd (cc) | inr refuses ↦ refused_used refuses.why (sym refuses.ends ∙ is) ]
 
   serves_used : (before after : Store D Y) (given back : Client I O P) (result : Status)
-      → Serves disk source sink before after given back result → result ≢ status.Usage
+      → ServesStore disk source sink before after given back result → result ≢ status.Usage
   serves_used before after given back result serves is =
       elim serves.serves [
         | inl attends ↦ ended_used attends.session.how (sym attends.ends ∙ is)
@@ -85,7 +85,7 @@ module _ {W D Y P I O F B : Type 0} (disk : Disk.Ghosts D) (yard : Yard.Ghosts Y
   client_used : (old new : W) (before after : Store D Y) (result : Status)
       → ServesClient disk yard source sink world old new before after result → result ≢ status.Usage
   client_used old new before after result (inl served) is =
-      lends_used (Serves disk source sink before after) (λ _. Unit {0}) (world.faults old) (world.faults new)
+      lends_used (ServesStore disk source sink before after) (λ _. Unit {0}) (world.faults old) (world.faults new)
       (world.clients old) (world.clients new) served.given served.told result
       (λ back s. serves_used before after served.given back s) served.lends is
   client_used old new before after result (inr none) is = absurd (cc)
@@ -94,7 +94,7 @@ module _ {W D Y P I O F B : Type 0} (disk : Disk.Ghosts D) (yard : Yard.Ghosts Y
       → MakesIn disk yard source sink world settings directory old new result → result ≢ status.Usage
   makes_in_used settings directory old new result makes is =
       elim makes.makes [
-        | inl stored ↦ lends_used (Makes disk settings) (StandsIn disk yard world directory new) (world.faults old)
+        | inl stored ↦ lends_used (Makes disk settings) (IsInDirectory disk yard world directory new) (world.faults old)
             (world.faults new) (world.stores old) (world.stores new) stored.given stored.told result
             (λ after s. makes_used settings stored.given after s) stored.lends is
         | inr none ↦ absurd (cc none.ends)
@@ -112,7 +112,7 @@ module _ {W D Y P I O F B : Type 0} (disk : Disk.Ghosts D) (yard : Yard.Ghosts Y
       → ChecksIn disk yard source sink world done directory old new result → result ≢ status.Usage
   checks_in_used done directory old new result checks is =
       elim checks.checks [
-        | inl stored ↦ lends_used (Checks disk done) (StandsIn disk yard world directory new) (world.faults old)
+        | inl stored ↦ lends_used (Checks disk done) (IsInDirectory disk yard world directory new) (world.faults old)
             (world.faults new) (world.stores old) (world.stores new) stored.given stored.told result
             (λ after s. checks_used done stored.given after s) stored.lends is
         | inr none ↦ absurd (cc none.ends)
@@ -121,7 +121,7 @@ module _ {W D Y P I O F B : Type 0} (disk : Disk.Ghosts D) (yard : Yard.Ghosts Y
   pub serves_in_used : (directory : List ℕ) (old new : W) (result : Status)
       → ServesIn disk yard source sink world directory old new result → result ≢ status.Usage
   serves_in_used directory old new result (inl stored) is =
-      lends_used (ServesClient disk yard source sink world old new) (StandsIn disk yard world directory new)
+      lends_used (ServesClient disk yard source sink world old new) (IsInDirectory disk yard world directory new)
       (world.faults old) (world.faults new) (world.stores old) (world.stores new) stored.given stored.told result
       (λ after s. client_used old new stored.given after s) stored.lends is
   serves_in_used directory old new result (inr none) is = absurd (cc none.0.ends)

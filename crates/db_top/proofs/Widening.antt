@@ -2,7 +2,7 @@
 use Rattle.std.proofs.Common.{◌≡◌, ◌≤◌, ◌⊎◌, ℕ, Option, Some, None, inl, inr, sym, ◌∙◌, subst₂, arith}
 use Rattle.db_top.specs.Lending.{Lends}
 use Rattle.db_top.specs.Runs.{ServesClient}
-use Rattle.db_top.specs.Serving.{Serves}
+use Rattle.db_top.specs.Serving.{ServesStore}
 use Rattle.db_top.specs.Statuses.{lost_to}
 use Rattle.db_top.specs.declared.status.Status.{Status}
 use Rattle.disk_model.specs.Causes.{Rose}
@@ -18,10 +18,10 @@ use Rattle.disk_model.specs.declared.yard.Yard
 rose_over : (before mid late now : ℕ) → before ≤ mid → late ≤ now → Rose mid late → Rose before now
 rose_over before mid late now earlier later rose = omega arith
 
-module _ {A : Type 0} (Does : A → A → Status → Type 0) (Stands : A → Type 0) (before mid late now : ℕ)
+module _ {A : Type 0} (Does : A → A → Status → Type 0) (Represents : A → Type 0) (before mid late now : ℕ)
     (earlier : before ≤ mid) (later : late ≤ now) (old new : Handed A) where
-  lends_over : (given : A) (told : Option A) (result : Status) → Lends Does Stands mid late old new given told result
-      → Lends Does Stands before now old new given told result
+  lends_over : (given : A) (told : Option A) (result : Status) → Lends Does Represents mid late old new given told result
+      → Lends Does Represents before now old new given told result
   lends_over given told result is = record {
     returned = is.returned;
     earlier = is.earlier;
@@ -31,9 +31,9 @@ module _ {A : Type 0} (Does : A → A → Status → Type 0) (Stands : A → Typ
     ends = over is.ends;
   }
     where
-      over : ((told ≡ Some is.returned) × Stands is.returned × (result ≡ is.earlier))
+      over : ((told ≡ Some is.returned) × Represents is.returned × (result ≡ is.earlier))
           ⊎ (((told ≡ None) ⊎ (told ≡ Some is.returned)) × Rose mid late × (result ≡ lost_to is.earlier))
-          → ((told ≡ Some is.returned) × Stands is.returned × (result ≡ is.earlier))
+          → ((told ≡ Some is.returned) × Represents is.returned × (result ≡ is.earlier))
           ⊎ (((told ≡ None) ⊎ (told ≡ Some is.returned)) × Rose before now × (result ≡ lost_to is.earlier))
       over (inl put) = inl put
       over (inr (kind, rose, ends)) = inr (kind, rose_over before mid late now earlier later rose, ends)
@@ -49,9 +49,9 @@ module _ {W D Y P I O F B : Type 0} (disk : Disk.Ghosts D) (yard : Yard.Ghosts Y
   serves_client_over earlier later before behind (inl is) = inl (record {
     given = is.given;
     told = is.told;
-    lends = subst₂ (λ (o n : Handed (Client I O P)). Lends (Serves disk source sink store back) (λ _. Unit {0})
+    lends = subst₂ (λ (o n : Handed (Client I O P)). Lends (ServesStore disk source sink store back) (λ _. Unit {0})
         (world.faults old) (world.faults new) o n is.given is.told result) before (sym behind)
-        (lends_over (Serves disk source sink store back) (λ _. Unit {0}) (world.faults old) (world.faults mid)
+        (lends_over (ServesStore disk source sink store back) (λ _. Unit {0}) (world.faults old) (world.faults mid)
         (world.faults late) (world.faults new) earlier later (world.clients mid) (world.clients late) is.given is.told
         result is.lends);
   })

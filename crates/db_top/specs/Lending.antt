@@ -10,16 +10,16 @@ use Rattle.db_top.specs.Statuses.{lost_to}
 use Rattle.db_top.specs.declared.status.Status.{Status}
 use Rattle.db_top.specs.declared.status.Status.TheVariants as status
 
--- this was handed out, this was done with it, and it was put back, so that it stands, and the status stays; or the
--- world failed to take it, it needn't be told how it came back, and what was done ends in a fault
-pub record Lends {A : Type 0} (Does : A → A → Status → Type 0) (Stands : A → Type 0) (before now : ℕ)
+-- this was handed out, this was done with it, and it was put back, and the status stays; or the world failed to take
+-- it, need not tell how it came back, and what was done ends in a fault
+pub record Lends {A : Type 0} (Does : A → A → Status → Type 0) (IsBack : A → Type 0) (before now : ℕ)
     (old new : Handed A) (given : A) (told : Option A) (result : Status) : Type 0 where
   pub returned : A
   pub earlier : Status
   pub out : new.out ≡ old.out ++ given ∷ []
   pub back : new.back ≡ old.back ++ told ∷ []
   pub does : Does given returned earlier
-  pub ends : ((told ≡ Some returned) × Stands returned × (result ≡ earlier))
+  pub ends : ((told ≡ Some returned) × IsBack returned × (result ≡ earlier))
       ⊎ (((told ≡ None) ⊎ (told ≡ Some returned)) × Rose before now × (result ≡ lost_to earlier))
 
 -- the world failed, and nothing was handed out
@@ -28,24 +28,24 @@ HandsNothing before now old new result = (new ≡ old) × Rose before now × (re
 
 module _ {W D Y P I O F B : Type 0} (disk : Disk.Ghosts D) (yard : Yard.Ghosts Y F B)
     (world : World.Ghosts W D Y P I O F B) where
-  -- the store that was handed out is the one that stood in this directory, where that is told; other directories are as
+  -- the store that was handed out is the one that was in this directory, where that is told; other directories are as
   -- before
-  pub record StoodIn (directory : List ℕ) (old new : W) (given : Store D Y) : Type 0 where
+  pub record WasInDirectory (directory : List ℕ) (old new : W) (given : Store D Y) : Type 0 where
     pub named : world.directories new ≡ world.directories old ++ directory ∷ []
-    pub stood : IfSome (world.stands old directory) (λ found. IfSome found (λ store. given ≡ store))
-    pub blank : world.stands old directory ≡ Some None
+    pub was_stored : IfSome (world.stored old directory) (λ found. IfSome found (λ store. given ≡ store))
+    pub blank : world.stored old directory ≡ Some None
         → IsBlank (disk.seen given.disk) (disk.may_leave given.disk) (yard.holds given.yard)
-    pub others : (other : List ℕ) → other ≢ directory → world.stands new other ≡ world.stands old other
+    pub others : (other : List ℕ) → other ≢ directory → world.stored new other ≡ world.stored old other
 
-  -- this store stands in the directory, where that is told
-  abbrev pub StandsIn : List ℕ → W → Store D Y → Type 0
-  StandsIn directory w store = IfSome (world.stands w directory) (λ found. found ≡ Some store)
+  -- this store is in the directory, where that is told
+  abbrev pub IsInDirectory : List ℕ → W → Store D Y → Type 0
+  IsInDirectory directory w store = IfSome (world.stored w directory) (λ found. found ≡ Some store)
 
   -- no store was handed out, and each directory is as before
-  pub record StandsStill (old new : W) : Type 0 where
+  pub record KeepsStores (old new : W) : Type 0 where
     pub stores : world.stores new ≡ world.stores old
     pub directories : world.directories new ≡ world.directories old
-    pub stands : world.stands new ≡ world.stands old
+    pub stored : world.stored new ≡ world.stored old
 
   -- as many were put back as were handed out, and each store has its directory
   pub record IsIdle (w : W) : Type 0 where

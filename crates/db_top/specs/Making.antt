@@ -1,20 +1,15 @@
 -- What `init` does with the store of a directory.
-use Rattle.std.specs.Prelude.{◌≡◌, ◌≢◌, ◌⊎◌, ◌≤◌, IfSome, IsSome}
-use Rattle.disk_model.specs.Causes.{Rose}
+use Rattle.std.specs.Prelude.{◌≡◌, ◌⊎◌, ◌≤◌, IfSome, IsSome}
 use Rattle.disk_model.specs.Logs.{Image}
 use Rattle.disk_model.specs.declared.disk.Disk
 use Rattle.disk_model.specs.declared.world.Store.{Store}
 use Rattle.db_top.specs.Statuses.{refused_as}
 use Rattle.db_top.specs.declared.status.Status.{Status}
 use Rattle.db_top.specs.declared.status.Status.TheVariants as status
-use Rattle.doc_engine.specs.Opening.{NotCreated}
+use Rattle.doc_engine.specs.Opening.{KeepsUntilCreated, RefusesCreating}
 use Rattle.doc_engine.specs.declared.refusal.OpenWhy.{OpenWhy}
-use Rattle.doc_engine.specs.declared.refusal.OpenWhy.TheVariants.{Fault, NotThere}
 use Rattle.doc_meaning.specs.History.{BaseSettings, empty_base}
-use Rattle.frame_log.specs.Standing.{OnlyRead}
-use Rattle.journal.specs.Making.{IsUsed}
-use Rattle.journal.specs.Opening.{MakesShown}
-use Rattle.journal.specs.Refusing.{HasNoRoot}
+use Rattle.journal_meaning.specs.Directories.{HasNoRoot}
 use Rattle.journal_meaning.specs.Shown.{Shows}
 
 module _ {D : Type 0} (disk : Disk.Ghosts D) (settings : BaseSettings) where
@@ -24,27 +19,16 @@ module _ {D : Type 0} (disk : Disk.Ghosts D) (settings : BaseSettings) where
     pub told : IsSome (disk.seen after)
     pub shows : (c : Image) → disk.may_leave after c → Shows c (empty_base settings)
 
-  -- a directory wasn't made, for this reason; unless the disk failed it was only read
+  -- a directory wasn't made, for this reason
   pub record RefusesToMake (before after : D) (result : Status) : Type 0 where
     pub why : OpenWhy
-    pub kind : why ≢ NotThere
-    pub cause : IfSome (disk.seen before) (λ image. NotCreated image why)
-    pub kept : why ≢ Fault → OnlyRead disk.seen disk.may_leave disk.moment disk.left_since before after
-    pub rose : why ≡ Fault → Rose (disk.faults before) (disk.faults after)
+    pub refuses : RefusesCreating disk before after why
     pub ends : result ≡ refused_as why
-
-  -- at each moment each image shows what one showed before, or nothing, or the empty base; of a directory with a root,
-  -- or whose root logs are damaged, each shows what one showed before, and the bytes are as before
-  pub record KeepsUntilMade (before after : D) : Type 0 where
-    pub images : IsSome (disk.seen before)
-        → MakesShown disk.may_leave disk.moment disk.left_since settings before after
-    pub used : IfSome (disk.seen before) (λ image. IsUsed image
-        → OnlyRead disk.seen disk.may_leave disk.moment disk.left_since before after)
 
   -- a directory was made or refused; its files stay
   pub record Makes {Y : Type 0} (before after : Store D Y) (result : Status) : Type 0 where
     pub makes : ((result ≡ status.Done) × IfSome (disk.seen before.disk) (λ image. HasMade image after.disk))
         ⊎ RefusesToMake before.disk after.disk result
-    pub keeps : KeepsUntilMade before.disk after.disk
+    pub keeps : KeepsUntilCreated disk settings before.disk after.disk
     pub yard : after.yard ≡ before.yard
     pub later : disk.faults before.disk ≤ disk.faults after.disk

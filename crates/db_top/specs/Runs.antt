@@ -13,9 +13,9 @@ use Rattle.doc_meaning.specs.History.{BaseSettings, settings_of}
 use Rattle.doc_model.specs.declared.settings.Settings.{Settings}
 use Rattle.command_words.specs.Asked.{AsksCheck, AsksInit, AsksRun, DoNotFit}
 use Rattle.db_top.specs.Checking.{Checks}
-use Rattle.db_top.specs.Lending.{HandsNothing, Lends, StandsIn, StandsStill, StoodIn}
+use Rattle.db_top.specs.Lending.{HandsNothing, Lends, IsInDirectory, KeepsStores, WasInDirectory}
 use Rattle.db_top.specs.Making.{Makes}
-use Rattle.db_top.specs.Serving.{Serves}
+use Rattle.db_top.specs.Serving.{ServesStore}
 use Rattle.db_top.specs.Statuses.{lost_to, text_of}
 use Rattle.db_top.specs.declared.status.Status.{Status}
 use Rattle.db_top.specs.declared.status.Status.TheVariants as status
@@ -35,8 +35,8 @@ module _ {W D Y P I O F B : Type 0} (disk : Disk.Ghosts D) (yard : Yard.Ghosts Y
       (result : Status) : Type 0 where
     pub given : Store D Y
     pub told : Option (Store D Y)
-    pub stood : StoodIn disk yard world directory old new given
-    pub lends : Lends Does (StandsIn disk yard world directory new) (world.faults old) (world.faults new)
+    pub was_stored : WasInDirectory disk yard world directory old new given
+    pub lends : Lends Does (IsInDirectory disk yard world directory new) (world.faults old) (world.faults new)
         (world.stores old) (world.stores new) given told result
 
   -- a client was handed out, and this was done with it while it was out
@@ -49,7 +49,7 @@ module _ {W D Y P I O F B : Type 0} (disk : Disk.Ghosts D) (yard : Yard.Ghosts Y
 
   -- the world failed to hand out a store
   pub record LendsNoStore (old new : W) (result : Status) : Type 0 where
-    pub still : StandsStill disk yard world old new
+    pub still : KeepsStores disk yard world old new
     pub rose : Rose (world.faults old) (world.faults new)
     pub ends : result ≡ status.Fault
 
@@ -68,7 +68,7 @@ module _ {W D Y P I O F B : Type 0} (disk : Disk.Ghosts D) (yard : Yard.Ghosts Y
   -- a client was handed out, served with a store or not, and put back; or the world failed, and the store is as it was
   abbrev pub ServesClient : W → W → Store D Y → Store D Y → Status → Type 0
   ServesClient old new store store' result =
-      LendsClient (Serves disk source sink store store') old new result
+      LendsClient (ServesStore disk source sink store store') old new result
       ⊎ ((store' ≡ store)
       × HandsNothing (world.faults old) (world.faults new) (world.clients old) (world.clients new) result)
 
@@ -102,6 +102,6 @@ module _ {W D Y P I O F B : Type 0} (disk : Disk.Ghosts D) (yard : Yard.Ghosts Y
     pub unprinted : world.printed middle ≡ world.printed old
     pub reports : Reports (world.faults middle) (world.faults new) (world.printed middle) (world.printed new)
         (text_of done earlier) earlier result
-    pub still : StandsStill disk yard world middle new
+    pub still : KeepsStores disk yard world middle new
     pub clients : world.clients new ≡ world.clients middle
     pub later : (world.faults old ≤ world.faults middle) × (world.faults middle ≤ world.faults new)

@@ -1,5 +1,5 @@
 -- What `run` does with the store of a directory and a client.
-use Rattle.std.specs.Prelude.{ℕ, ◌≡◌, ◌≢◌, ◌⊎◌, ◌≤◌, IsTrue, List, All, IfSome, IsSome}
+use Rattle.std.specs.Prelude.{ℕ, ◌≡◌, ◌⊎◌, ◌≤◌, IsTrue, List, All, IfSome, IsSome}
 use Rattle.std.specs.Io.KnownBytes.{Consumes, Appends, IsAtEnd}
 use Rattle.disk_model.specs.Causes.{Rose}
 use Rattle.disk_model.specs.Logs.{Image}
@@ -10,16 +10,14 @@ use Rattle.disk_model.specs.declared.world.Client.{Client}
 use Rattle.disk_model.specs.declared.world.Store.{Store}
 use Rattle.db_top.specs.Statuses.{refused_as, status_of}
 use Rattle.db_top.specs.declared.status.Status.{Status}
-use Rattle.doc_engine.specs.Opening.{NotOpened, longest_of}
-use Rattle.doc_engine.specs.Standing.{KeepsFormat, ShowsWith}
+use Rattle.doc_engine.specs.Opening.{RefusesOpening, longest_of}
+use Rattle.doc_engine.specs.Representing.{KeepsFormat, ShowsWith}
 use Rattle.doc_engine.specs.declared.refusal.OpenWhy.{OpenWhy}
-use Rattle.doc_engine.specs.declared.refusal.OpenWhy.TheVariants.{AlreadyThere, Fault, Memory}
 use Rattle.doc_meaning.specs.History.{Base}
 use Rattle.engine_session.specs.Attended.{AreCounted}
 use Rattle.engine_session.specs.Ended.{HasEnded}
 use Rattle.engine_session.specs.Pending.{Acknowledges, ShowsFrom, pending_of}
-use Rattle.frame_log.specs.Standing.{OnlyRead}
-use Rattle.journal.specs.Opening.{KeepsShown, ShowsAs}
+use Rattle.journal_meaning.specs.Directories.{KeepsShown, ShowsAs}
 use Rattle.journal_meaning.specs.Shown.{Shows}
 use Rattle.transcript.specs.Legal.{AreLegal}
 use Rattle.transcript.specs.Transcript.{Agrees, Session}
@@ -35,12 +33,12 @@ module _ {D : Type 0} (disk : Disk.Ghosts D) where
     -- each image since the disk was handed out shows what one showed then, or the history of the first turns
     pub always : (c : Image) → disk.left_since after (disk.moment before) c
         → ((d : Image) × disk.may_leave before d × ShowsAs d c) ⊎ ShowsFrom base turns 0 c
-    -- while it was opened each image showed what one showed before. From then on it stood at a state behind each turn,
-    -- one after the other, and a crash since such a state leaves the turns up to it. When the client's bytes were
-    -- written isn't said here, since the streams and the disk have no clock in common
+    -- while it was opened each image showed what one showed before. From then on it had a state after each turn, one
+    -- after the other, and a crash since such a state leaves the turns up to it. This doesn't say when the client's
+    -- bytes were written, since the streams and the disk have no clock in common
     pub opened : D
-    pub opening : KeepsShown disk.may_leave disk.moment disk.left_since before opened
-    pub goes_on : Acknowledges disk.seen disk.may_leave disk.moment disk.left_since base turns opened after
+    pub opening : KeepsShown disk before opened
+    pub goes_on : Acknowledges disk base turns opened after
 
   -- there are turns of the session's author alone, legal from a base, with which it agrees; the disk keeps them, and
   -- counted the faults of logs that they met
@@ -74,21 +72,16 @@ module _ {D I O P : Type 0} (disk : Disk.Ghosts D) (source : Source.Ghosts I) (s
         → HasTurns disk base (longest_of image) before after session)
     pub ends : result ≡ status_of session.how
 
-  -- the directory wasn't opened, for this reason, and the client not asked; each image shows what one showed before,
-  -- and what was refused for what it holds was only read
+  -- the directory wasn't opened, for this reason, and the client not asked; each image shows what one showed before
   pub record Refuses (before after : D) (given back : Client I O P) (result : Status) : Type 0 where
     pub why : OpenWhy
-    pub kind : why ≢ AlreadyThere
-    pub cause : IfSome (disk.seen before) (λ image. NotOpened image why)
-    pub keeps : IsSome (disk.seen before) → KeepsShown disk.may_leave disk.moment disk.left_since before after
-    pub kept : IsSome (disk.seen before) → why ≢ Fault → why ≢ Memory
-        → OnlyRead disk.seen disk.may_leave disk.moment disk.left_since before after
-    pub rose : why ≡ Fault → Rose (disk.faults before) (disk.faults after)
+    pub refuses : RefusesOpening disk before after why
+    pub keeps : IsSome (disk.seen before) → KeepsShown disk before after
     pub unasked : back ≡ given
     pub ends : result ≡ refused_as why
 
   -- a client was served with a store, or not; the store's files stay
-  pub record Serves {Y : Type 0} (before after : Store D Y) (given back : Client I O P) (result : Status) : Type 0 where
+  pub record ServesStore {Y : Type 0} (before after : Store D Y) (given back : Client I O P) (result : Status) : Type 0 where
     pub serves : Attends before.disk after.disk given back result ⊎ Refuses before.disk after.disk given back result
     pub yard : after.yard ≡ before.yard
     pub later : disk.faults before.disk ≤ disk.faults after.disk

@@ -29,7 +29,12 @@ refused_as why.Memory = status.Memory
 -- where something couldn't be put back or printed, what was done ends in a fault; an earlier cause goes before
 abbrev pub lost_to : Status → Status
 lost_to status.Done = status.Fault
-lost_to earlier = earlier
+lost_to status.Usage = status.Usage
+lost_to status.NotThere = status.NotThere
+lost_to status.AlreadyThere = status.AlreadyThere
+lost_to status.Fault = status.Fault
+lost_to status.Memory = status.Memory
+lost_to (status.Damaged file place) = status.Damaged file place
 
 -- the exit status
 abbrev pub code_of : Status → ℕ

@@ -1,4 +1,5 @@
-// Saying what the database of a directory holds.
+//! Saying what the database of a directory holds.
+
 ghost use Rattle.std.specs.Prelude.{◌≡◌, ◌≤◌};
 ghost use Rattle.db_top.specs.Checking.{Checks};
 ghost use Rattle.db_top.specs.Lending.{IsIdle};

@@ -1,4 +1,4 @@
-//! The top call.
+//! What the program does: `init`, `run` and `check`, over any world.
 #![tactic(auto)]
 
 mod checking;

@@ -1,11 +1,12 @@
-// Lines that are printed whole.
+//! Lines that are printed whole.
+
 ghost use Rattle.std.specs.Prelude.{[], ◌≡◌, ◌++◌, ◌+◌, ◌≤◌, length};
 ghost use Rattle.std.specs.FinMap.{len};
 ghost use Rattle.std.specs.Fmt.{decimal};
 ghost use Rattle.db_top.specs.Checking.{summary_text};
 ghost use Rattle.db_top.specs.Statuses.{text_of};
 ghost use Rattle.db_top.specs.declared.status.Status.TheVariants.{Damaged};
-ghost use Rattle.doc_engine.specs.Held.{view_of};
+ghost use Rattle.doc_engine.specs.EngineState.{view_of};
 ghost use Rattle.transcript.specs.Texts.{file_text};
 
 use arrayvec::ArrayString;
@@ -16,7 +17,7 @@ use itoa::Buffer;
 // A line has at most three numbers, of up to 20 digits.
 pub(crate) type Line = ArrayString<192>;
 
-// What a snapshot shows.
+// The line of a snapshot.
 pub(crate) fn summary(seen: Snapshot<'_>) -> Line
     ensures { let view = view_of seen.entry in
         result.bytes ≡ summary_text view.front view.merge (len view.documents) }
@@ -55,7 +56,7 @@ fn kind_and_number(file: FileName) -> (&'static str, u64)
     }
 }
 
-// Puts a text and a number behind a line.
+// Appends a text and a number to a line.
 fn put(line: &mut Line, text: &str, number: u64)
     requires { length line.old.bytes + length text.now + 40 ≤ 192 }
     ensures written { line.new.bytes ≡ line.old.bytes ++ (text.now ++ decimal number) }

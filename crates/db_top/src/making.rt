@@ -1,4 +1,5 @@
-// Making the database of a directory.
+//! Making the database of a directory.
+
 ghost use Rattle.std.specs.Prelude.{◌≡◌, ◌≤◌, ◌⊎◌, IsTrue, map};
 ghost use Rattle.command_words.specs.Asked.{asked_settings, index_of};
 ghost use Rattle.db_top.specs.Lending.{IsIdle};
@@ -7,7 +8,7 @@ ghost use Rattle.db_top.specs.Runs.{MakesIn};
 ghost use Rattle.db_top.specs.declared.status.Status.TheVariants.{Memory};
 ghost use Rattle.doc_meaning.specs.History.{settings_of};
 ghost use Rattle.doc_model.specs.Queries.{is_index_list};
-ghost use Rattle.journal.specs.Making.{HasShortNames};
+ghost use Rattle.doc_model.specs.Settings.{HasShortNames};
 
 use crate::status::Status;
 use command_words::Init;

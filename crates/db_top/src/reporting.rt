@@ -1,6 +1,7 @@
-// Printing how a run ended.
+//! Printing how a run ended.
+
 ghost use Rattle.std.specs.Prelude.{◌≡◌, ◌≤◌};
-ghost use Rattle.db_top.specs.Lending.{StandsStill};
+ghost use Rattle.db_top.specs.Lending.{KeepsStores};
 ghost use Rattle.db_top.specs.Runs.{Reports};
 ghost use Rattle.db_top.specs.Statuses.{text_of};
 
@@ -12,7 +13,7 @@ use disk_model::World;
 pub(crate) fn report<W: World>(world: &mut W, done: &[u8], status: Status) -> Status
     ensures reports { Reports (W.faults world.old) (W.faults world.new)
         (W.printed world.old) (W.printed world.new) (text_of done.now status) status result }
-    ensures still { StandsStill W.Disk.Disk W.Yard.Yard W.World world.old world.new }
+    ensures still { KeepsStores W.Disk.Disk W.Yard.Yard W.World world.old world.new }
     ensures clients { W.clients world.new ≡ W.clients world.old }
     ensures later { W.faults world.old ≤ W.faults world.new }
 {

@@ -1,8 +1,9 @@
-// Serving a client with the database of a directory.
+//! Serving a client with the database of a directory.
+
 ghost use Rattle.std.specs.Prelude.{◌≡◌, ◌≤◌, length};
-ghost use Rattle.db_top.specs.Lending.{IsIdle, StandsStill};
+ghost use Rattle.db_top.specs.Lending.{IsIdle, KeepsStores};
 ghost use Rattle.db_top.specs.Runs.{ServesClient, ServesIn};
-ghost use Rattle.db_top.specs.Serving.{Serves};
+ghost use Rattle.db_top.specs.Serving.{ServesStore};
 
 use crate::status::Status;
 use disk_model::{Client, Disk, Port, Sink, Source, Store, World, Yard};
@@ -45,7 +46,7 @@ fn with_client<R, W: World>(
     ensures serves { ServesClient W.Disk.Disk W.Yard.Yard W.Source.Source W.Sink.Sink W.World
         world.old world.new store result.0 result.1 }
     ensures clients { length (W.clients world.new).back ≡ length (W.clients world.new).out }
-    ensures still { StandsStill W.Disk.Disk W.Yard.Yard W.World world.old world.new }
+    ensures still { KeepsStores W.Disk.Disk W.Yard.Yard W.World world.old world.new }
     ensures printed { W.printed world.new ≡ W.printed world.old }
     ensures later { W.faults world.old ≤ W.faults world.new }
 {
@@ -66,7 +67,7 @@ fn attend<R, D: Disk, Y: Yard, I: Source, O: Sink, P: Port>(
     store: Store<D, Y>,
     client: &mut Client<I, O, P>,
 ) -> (Store<D, Y>, Status)
-    ensures { Serves D.Disk I.Source O.Sink store result.0 client.old client.new result.1 }
+    ensures { ServesStore D.Disk I.Source O.Sink store result.0 client.old client.new result.1 }
 {
     match Engine::open(alloc, store.disk, store.yard) {
         Ok(engine) => {

@@ -44,7 +44,12 @@ impl Status {
     {
         match self {
             Status::Done => Status::Fault,
-            earlier => earlier,
+            Status::Usage
+            | Status::NotThere
+            | Status::AlreadyThere
+            | Status::Fault
+            | Status::Memory
+            | Status::Damaged { .. } => self,
         }
     }
 }

@@ -28,7 +28,8 @@ may_last (c ∷ changes) change old new (middle, made, rest) =
 pub same_becomes : (step : List ℕ → List ℕ → Type 0) (changes more : List Change) (sure : List ℕ) → more ≡ changes →
     ((bytes : List ℕ) → step bytes bytes)
     → MayBecome step changes sure more sure
-same_becomes step changes more sure is same new may = (new, subst (λ (cs : List Change). MayHold cs sure new) is may, same new)
+same_becomes step changes more sure is same new may =
+    (new, subst (λ (cs : List Change). MayHold cs sure new) is may, same new)
 
 pub more_becomes : (step : List ℕ → List ℕ → Type 0) (changes more : List Change) (change : Change) (sure : List ℕ) →
     more ≡ changes ++ change ∷ []
@@ -48,12 +49,15 @@ write_taken_back old bytes place le =
     rw (front, back) (parts place (length bytes) old)
 
 -- one change more, as what is read after it and what was read before it
-pub redone_more : (changes more : List Change) (change : Change) (sure before after : List ℕ) → more ≡ changes ++ change ∷ []
+pub redone_more : (changes more : List Change) (change : Change) (sure before after : List ℕ)
+    → more ≡ changes ++ change ∷ []
     → before ≡ redone changes sure → after ≡ redo change before → after ≡ redone more sure
 redone_more changes more change sure before after is was now =
-    now ∙ (ap (redo change) was ∙ (sym (redone_last changes change sure) ∙ sym (ap (λ (cs : List Change). redone cs sure) is)))
+    now ∙ (ap (redo change) was ∙ (sym (redone_last changes change sure) ∙ sym
+    (ap (λ (cs : List Change). redone cs sure) is)))
 
-pub undone_more : (changes more : List Change) (change : Change) (sure before after : List ℕ) → more ≡ changes ++ change ∷ []
+pub undone_more : (changes more : List Change) (change : Change) (sure before after : List ℕ)
+    → more ≡ changes ++ change ∷ []
     → undone changes before ≡ sure → undo change after ≡ before → undone more after ≡ sure
 undone_more changes more change sure before after is was now =
     ap (λ (cs : List Change). undone cs after) is ∙ (undone_last changes change after ∙ (ap (undone changes) now ∙ was))
@@ -110,7 +114,8 @@ part_torn place n m bytes old new le len is = record {
           take-append-drop (n - m) (drop (place + m) old),
         ) refl
 
-    lengths : length (take place old ++ bytes ++ drop (place + m) old) ≡ min place (length old) + m + (length old - (place + m))
+    lengths : length (take place old ++ bytes ++ drop (place + m) old) ≡ min place (length old) + m +
+        (length old - (place + m))
     lengths = simp (length-append, length-take, length-drop, len) refl
 
 -- the change at a place is taken back

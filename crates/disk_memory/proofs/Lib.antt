@@ -1,5 +1,5 @@
 pub mod ChangesLemmas
-pub mod HeldLemmas
+pub mod CrashStateLemmas
 pub mod Pieces
 pub mod ResultLemmas
 pub mod SeatsLemmas

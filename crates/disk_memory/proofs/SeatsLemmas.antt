@@ -40,7 +40,8 @@ pub client_returns : (seats : List ClientSeat) (n : ℕ) (seat old : ClientSeat)
     old ≡ get_or seats n old → seat.out.value ≡ old.out.value
     → PutsBack seat.back (seated_clients seats n) (seated_clients (slice_set seats n seat) (n + 1))
 client_returns seats n seat old lt was same = record {
-  out = map-set_same (λ (s : ClientSeat). s.out.value) seats n seat old (same ∙ ap (λ (s : ClientSeat). s.out.value) was);
+  out = map-set_same (λ (s : ClientSeat). s.out.value) seats n seat old
+      (same ∙ ap (λ (s : ClientSeat). s.out.value) was);
   back = back_more (λ (s : ClientSeat). s.back) seats n seat lt;
 }
 
@@ -69,7 +70,8 @@ due seats n seat lt was =
     simp (length-map, length-take) (omega (arith, lt)) in
     ap (slice_get (seated_directories seats)) returned
     ∙ (slice_get-map (λ (s : StoreSeat). string_bytes s.directory) seats n
-    ∙ ap (option_map (λ (s : StoreSeat). string_bytes s.directory)) (slice_get_read seats (length seats) n seat refl lt was))
+    ∙ ap (option_map (λ (s : StoreSeat). string_bytes s.directory))
+    (slice_get_read seats (length seats) n seat refl lt was))
 
 pub equal_bytes : (bs cs : List ℕ) → bs ≡ cs → bytes_eq bs cs ≡ true
 equal_bytes bs cs same = (bytes_eq-Decides bs cs).1 same
@@ -77,12 +79,13 @@ equal_bytes bs cs same = (bytes_eq-Decides bs cs).1 same
 pub apart_bytes : (bs cs : List ℕ) → bs ≢ cs → bytes_eq bs cs ≡ false
 apart_bytes bs cs apart = false_from_ne_true (bytes_eq bs cs) (λ same. apart ((bytes_eq-Decides bs cs).0 same))
 
--- a store that was put stands in the directory that was due
+-- a store that was put is in the directory that was due
 pub stands_there : (seats : List StoreSeat) (n : ℕ) (seat : StoreSeat) (bs : List ℕ)
     (old new : BTreeMap (String Global) (Store MemoryDisk MemoryYard)) (store : Store MemoryDisk MemoryYard)
     → n < length seats → seat ≡ get_or seats n seat → bs ≡ string_bytes seat.directory
     → ((cs : List ℕ) → get_by_text new cs ≡ update bytes_eq (get_by_text old) bs (Some store) cs)
-    → IfSome (directory_due (seated_stores seats n) (seated_directories seats)) (λ dir. get_by_text new dir ≡ Some store)
+    → IfSome (directory_due (seated_stores seats n) (seated_directories seats))
+    (λ dir. get_by_text new dir ≡ Some store)
 stands_there seats n seat bs old new store lt was is sets =
     subst (λ (due_dir : Option (List ℕ)). IfSome due_dir (λ dir. get_by_text new dir ≡ Some store))
     (sym (due seats n seat lt was))

@@ -1,4 +1,4 @@
--- A log as the bytes that its last sync made sure of, and each change since.
+-- A log as the bytes that its last sync put on the disk, and each change since.
 use Rattle.std.specs.Prelude.{◌≡◌, ℕ, ◌+◌, List, [], ◌∷◌, ◌++◌, length, take, drop}
 use Rattle.disk_model.specs.Logs.{written_at, Torn, MayCut}
 use Rattle.disk_memory.specs.declared.change.Change.{Change}
@@ -22,7 +22,7 @@ undo (Cut len lost) new = new ++ lost.items
 undo (MissedWrite place bytes) new = new
 undo (MissedCut len) new = new
 
--- the last change is taken back first
+-- what was read before all of them; the last change is taken back first
 abbrev pub undone : List Change → List ℕ → List ℕ
 undone [] new = new
 undone (change ∷ changes) new = undo change (undone changes new)
@@ -39,7 +39,7 @@ abbrev pub MayHold : List Change → List ℕ → List ℕ → Type 0
 MayHold [] old new = new ≡ old
 MayHold (change ∷ changes) old new = (middle : List ℕ) × MayMake change old middle × MayHold changes middle new
 
--- what a log may hold is what it might have held, after this step
+-- all that the log may hold comes by this step from what it might have held
 abbrev pub MayBecome : (List ℕ → List ℕ → Type 0) → List Change → List ℕ → List Change → List ℕ → Type 0
 MayBecome step old_changes old_sure changes sure =
     (new : List ℕ) → MayHold changes sure new → (old : List ℕ) × MayHold old_changes old_sure old × step old new
@@ -48,4 +48,6 @@ MayBecome step old_changes old_sure changes sure =
 abbrev pub IsWrite : ℕ → List ℕ → List ℕ → Change → Type 0
 IsWrite place bytes content (Wrote p copy over) =
     (p ≡ place) × (copy.items ≡ bytes) × (over.items ≡ take (length bytes) (drop place content))
-IsWrite place bytes content _ = ⊥
+IsWrite place bytes content (Cut len lost) = ⊥
+IsWrite place bytes content (MissedWrite p copy) = ⊥
+IsWrite place bytes content (MissedCut len) = ⊥

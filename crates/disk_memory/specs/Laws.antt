@@ -10,7 +10,7 @@ use Rattle.disk_memory.specs.declared.change.Change.{Change}
 use Rattle.disk_memory.specs.declared.change.Change.TheVariants.{Wrote, Cut, MissedWrite, MissedCut}
 use Rattle.disk_memory.specs.declared.log.MemoryLog.{MemoryLog}
 use Rattle.disk_memory.specs.Changes.{redo, redone, MayMake, MayHold}
-use Rattle.disk_memory.specs.Held.{content_of, read_of, LeavesOf, MayLeave, MightLeave, LeftSince}
+use Rattle.disk_memory.specs.CrashStates.{content_of, read_of, LeavesOf, MayLeave, MightLeave, LeftSince}
 use Rattle.disk_model.proofs.LogsLemmas.{torn_same, whole_torn}
 
 may_redo : (change : Change) (old : List ℕ) → MayMake change old (redo change old)

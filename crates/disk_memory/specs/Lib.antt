@@ -1,5 +1,5 @@
 pub mod Changes
-pub mod Held
+pub mod CrashStates
 pub mod Laws
 pub mod Files
 pub mod Worlds

@@ -1,4 +1,4 @@
--- What a plan says of a call.
+-- Which calls fail by a plan.
 use Rattle.std.specs.Prelude.{ℕ, ◌≤◌, IsSomeAnd, Contains}
 use Rattle.disk_memory.specs.declared.plan.Plan.{Plan}
 use Rattle.disk_memory.specs.declared.plan.Verdict.{Verdict}
@@ -12,7 +12,7 @@ IsPast plan call = IsSomeAnd plan.stop (λ count. count ≤ call)
 abbrev pub IsListed : Plan → ℕ → Type 0
 IsListed plan call = Contains plan.failing.items call
 
--- what is to become of the call: the stop counts before the list
+-- whether the call is done or fails; the stop goes before the list
 abbrev pub IsVerdict : Plan → ℕ → Verdict → Type 0
 IsVerdict plan call Stopped = IsPast plan call
 IsVerdict plan call Fails = (IsPast plan call → ⊥) × IsListed plan call

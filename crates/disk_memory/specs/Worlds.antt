@@ -43,9 +43,9 @@ stores_of world = seated_stores world.store_seats.items world.stores_returned
 abbrev pub directories_of : MemoryWorld → List (List ℕ)
 directories_of world = seated_directories world.store_seats.items
 
--- what stands in a directory
-abbrev pub standing : MemoryWorld → List ℕ → Option (Option (Store MemoryDisk MemoryYard))
-standing world dir = Some (get_by_text world.directories dir)
+-- the store in a directory
+abbrev pub stored_in : MemoryWorld → List ℕ → Option (Option (Store MemoryDisk MemoryYard))
+stored_in world dir = Some (get_by_text world.directories dir)
 
 -- the directory of the first store that was not yet put back
 abbrev pub due_in : MemoryWorld → Option (List ℕ)

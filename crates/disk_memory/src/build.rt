@@ -1,4 +1,5 @@
-// A file in memory that is being made.
+//! A file in memory that is being made.
+
 ghost use Rattle.std.specs.Prelude.{◌≡◌, ◌≤◌, ◌++◌, Some};
 ghost use Rattle.std.specs.Bool.{OnTrue, OnFalse};
 ghost use Rattle.disk_model.specs.Causes.{Rose};

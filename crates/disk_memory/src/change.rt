@@ -1,6 +1,6 @@
-// What was done to a log since its last sync.
+//! What was done to a log since its last sync.
 
-/// A change that no sync has made sure of yet. What it replaced stands beside it, so that it can be taken back.
+/// A change that no sync has put on the disk yet. It keeps what it replaced, so that it can be taken back.
 #[derive(Debug, Drop)]
 pub enum Change {
     Wrote {

@@ -1,4 +1,5 @@
-// What is left of a log after a crash that is chosen.
+//! What a given crash leaves of a log.
+
 ghost use Rattle.std.specs.Prelude.{◌≡◌, ◌+◌, ◌++◌, take, drop, length, IfOk};
 ghost use Rattle.disk_model.specs.Logs.{Torn};
 ghost use Rattle.disk_memory.specs.Changes.{undo, undone, MayMake, MayHold};
@@ -8,8 +9,9 @@ use crate::log::MemoryLog;
 use std::alloc::{AllocError, Global};
 
 impl MemoryLog {
-    /// What a crash leaves of the log where of each change since the last sync so many bytes have landed: of a write
-    /// its first ones, and of a cut all or, at 0, nothing. Of a change that isn't named nothing has landed.
+    /// What a crash leaves of the log. For each change since the last sync, in order, `landed` has the number of bytes
+    /// that reached the disk: the first bytes of a write. A cut happened unless its number is 0. A change without a
+    /// number didn't happen.
     pub fn left(&self, alloc: Global, landed: &[u64]) -> Result<Vec<u8>, AllocError>
         ensures { IfOk result (λ bytes. MayHold self.now.pending.items self.now.sure.value.items bytes.items) }
     {

@@ -1,9 +1,10 @@
-// A disk in memory.
+//! A disk in memory.
+
 ghost use Rattle.std.specs.Prelude.{◌≡◌, ◌≤◌, ◌<◌, ◌^◌, Some, length, vec_len, ℕ, IfOk, IfSome};
 ghost use Rattle.disk_model.specs.declared.disk.TheConstants.{LOG_COUNT};
 ghost use Rattle.disk_model.specs.Causes.{Rose};
 ghost use Rattle.disk_model.specs.Logs.{Image, ReadsAt, Settled};
-ghost use Rattle.disk_memory.specs.Held.{changes_of, read_of, bytes_of, AreLeft, MayLeave, LeftSince};
+ghost use Rattle.disk_memory.specs.CrashStates.{changes_of, read_of, bytes_of, AreLeft, MayLeave, LeftSince};
 ghost use Rattle.disk_memory.specs.Laws.{counts_now_of, each_alone_of, only_now_of, reads_now_of};
 
 use crate::log::MemoryLog;
@@ -15,9 +16,9 @@ use std::alloc::{AllocError, Global};
 
 /// A disk in memory, which tells what its logs hold and what a crash may leave of them.
 ///
-/// A write costs as much as its bytes, whatever the log's length and however many calls there were; a sync as much as
-/// there are changes since the last one. A call that the plan fails leaves what is read as it was, and a crash may
-/// leave any part of it. After the stop each call fails and changes nothing but the count.
+/// A write costs as much as its bytes, whatever the log's length and the number of calls. A sync costs as much as there
+/// are changes since the last one. A call that the plan fails changes nothing that is read, but a crash may leave any
+/// part of its change. After the stop each call fails, and only the count of faults changes.
 #[derive(Drop)]
 pub struct MemoryDisk {
     logs: MemoryLogs,
@@ -26,7 +27,7 @@ pub struct MemoryDisk {
 }
 
 impl MemoryDisk {
-    /// A disk that holds these bytes, all of them sure. A log past 2^62 bytes is refused as want of memory.
+    /// A disk whose logs have these bytes, all of them synced. A log past 2^62 bytes is refused as want of memory.
     pub fn new(alloc: Global, contents: Vec<Vec<u8>>, meter: Meter) -> Result<Self, AllocError>
         requires { vec_len contents ≡ LOG_COUNT }
         ensures reads { IfOk result (λ disk. IfSome (⟦<MemoryDisk as Disk>⟧.seen disk)
@@ -43,7 +44,7 @@ impl MemoryDisk {
         })
     }
 
-    /// How many changes of a log its last sync doesn't make sure of.
+    /// How many changes of a log came after its last sync.
     pub fn unsure(&self, file: u8) -> usize
         requires { file < LOG_COUNT }
         ensures { result ≡ length (changes_of self.now.logs.logs.items file) }
@@ -51,8 +52,9 @@ impl MemoryDisk {
         self.logs.logs[file as usize].pending.len()
     }
 
-    /// The disk that a crash at this moment leaves, where of each change of each log so many bytes have landed: of a
-    /// write its first ones, and of a cut all or, at 0, nothing. Of a change that isn't named nothing has landed.
+    /// The disk that a crash at this moment leaves. For each log, and each of its changes since its last sync in order,
+    /// `landed` has the number of bytes that reached the disk: the first bytes of a write. A cut happened unless its
+    /// number is 0. A change without a number didn't happen.
     pub fn after_crash(
         &self,
         alloc: Global,
@@ -158,7 +160,7 @@ impl Disk for MemoryDisk {
     }
 }
 
-// The bytes from a place on, as many as there are and as fit.
+// Copies the bytes from a place on into the buffer, as many as there are and as fit.
 fn copy_from(content: &[u8], place: u64, out: &mut [u8]) -> usize
     ensures bytes { ReadsAt content.now place result out.new }
     ensures bound { result ≤ length out.new }

@@ -1,4 +1,5 @@
-// The calls and the faults of one object.
+//! The calls and the faults of one object.
+
 ghost use Rattle.std.specs.Prelude.{◌≡◌, ◌≤◌, ◌+◌, ◌-◌, ◌^◌, ◌↔◌, IsTrue, min};
 ghost use Rattle.std.specs.Bool.{OnTrue, OnFalse};
 ghost use Rattle.disk_model.specs.Causes.{Rose};
@@ -29,7 +30,7 @@ impl Faults {
         }
     }
 
-    /// Counts a call. A false answer has counted a fault.
+    /// Counts a call. Where it returns false it has counted a fault too.
     pub fn lets(&mut self) -> bool
         ensures planned { IsTrue result ↔ IsVerdict self.old.plan self.old.calls Verdict.Goes }
         ensures plan { self.new.plan ≡ self.old.plan }

@@ -1,10 +1,11 @@
-// A sealed file in memory.
+//! A sealed file in memory.
+
 ghost use Rattle.std.specs.Prelude.{length, Some, refl};
 
 use disk_model::SealedFile;
 
-/// A sealed file. Its bytes stay in memory for good, so that whoever holds the value can read it, and `admit` can keep
-/// it without taking memory.
+/// A sealed file. Its bytes are never freed, so that each holder of the value can read them, and `admit` takes no
+/// memory.
 #[derive(Clone, Copy)]
 pub struct MemoryFile {
     pub number: u64,

@@ -1,4 +1,5 @@
-// One log in memory.
+//! One log in memory.
+
 ghost use Rattle.std.specs.Prelude.{◌≡◌, ◌≤◌, ◌+◌, ◌^◌, length, vec_len, OnOk, OnErr, IfOk, []};
 ghost use Rattle.disk_model.specs.Logs.{Torn, MayCut, Writes, Cuts};
 ghost use Rattle.disk_memory.specs.Changes.{redone, undone, IsWrite, MayBecome};
@@ -7,8 +8,8 @@ use crate::change::Change;
 use std::alloc::{AllocError, Global};
 use std::snapshot::Snapshot;
 
-/// A log: what is read, what its last sync made sure of, and each change since. What is sure has no bytes of its own;
-/// it is what is read before the changes.
+/// A log: what is read, what its last sync put on the disk, and each change since. The synced bytes aren't kept a
+/// second time; they are what is read once the changes are taken back.
 #[derive(Drop)]
 pub struct MemoryLog {
     pub content: Vec<u8>,
@@ -35,7 +36,7 @@ impl MemoryLog {
         }
     }
 
-    /// Writes over what is there, and past the end.
+    /// Writes these bytes, over old ones and past the end.
     pub fn write(&mut self, alloc: Global, place: u64, bytes: &[u8]) -> Result<(), AllocError>
         requires place { place ≤ vec_len self.old.content }
         requires end { place + length bytes.now ≤ 2 ^ 62 }
@@ -52,7 +53,7 @@ impl MemoryLog {
         Ok(())
     }
 
-    /// Keeps a write that failed: a crash may leave any part of it.
+    /// Notes a write that failed, of which a crash may leave any part.
     pub fn miss_write(&mut self, alloc: Global, place: u64, bytes: &[u8]) -> Result<(), AllocError>
         ensures same { self.new.content.items ≡ self.old.content.items }
         ensures crash { MayBecome (Torn place (length bytes.now))
@@ -81,7 +82,7 @@ impl MemoryLog {
         Ok(())
     }
 
-    /// Keeps a cut that failed: a crash may leave it done.
+    /// Notes a cut that failed, which a crash may leave done.
     pub fn miss_cut(&mut self, len: u64) -> Result<(), AllocError>
         ensures same { self.new.content.items ≡ self.old.content.items }
         ensures crash { MayBecome (MayCut len)
@@ -92,7 +93,7 @@ impl MemoryLog {
         Ok(())
     }
 
-    /// Makes sure of what is read.
+    /// Puts what is read on the disk.
     pub fn sync(&mut self)
         ensures content { self.new.content.items ≡ self.old.content.items }
         ensures sure { self.new.sure.value.items ≡ self.old.content.items }
@@ -103,7 +104,7 @@ impl MemoryLog {
     }
 }
 
-// Writes over what is there, and past the end.
+// Writes these bytes, over old ones and past the end.
 fn put(content: &mut Vec<u8>, place: usize, bytes: &[u8]) -> Result<(), AllocError>
     requires { place ≤ vec_len content.old }
     ensures ok { OnOk result (Writes place bytes.now content.old.items content.new.items) }

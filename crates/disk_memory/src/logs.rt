@@ -1,16 +1,17 @@
-// The logs of a disk in memory, and what they were before each change.
+//! The logs of a disk in memory, and what they were before each change.
+
 ghost use Rattle.std.specs.Prelude.{◌≡◌, ◌≤◌, ◌<◌, ◌+◌, ◌^◌, length, vec_len, OnOk, OnErr, IfOk, Some, ℕ};
 ghost use Rattle.disk_model.specs.Changes.{Any};
 ghost use Rattle.disk_model.specs.Logs.{Torn, MayCut, Writes, Cuts, Settled};
 ghost use Rattle.disk_model.specs.declared.disk.TheConstants.{LOG_COUNT};
-ghost use Rattle.disk_memory.specs.Held.{read_of, AreSure, MayLeave, ReadBecomes, Steps};
+ghost use Rattle.disk_memory.specs.CrashStates.{read_of, AreSure, MayLeave, ReadBecomes, Steps};
 
 use crate::log::MemoryLog;
 use disk_model::{LOG_COUNT, LONGEST_LOG};
 use std::alloc::{AllocError, Global};
 use std::snapshot::Snapshot;
 
-/// The logs, and what they were before each change, which has no bytes: it is for clauses alone.
+/// The logs, and their states before each change. These states take no memory, and only clauses read them.
 #[derive(Drop)]
 pub struct MemoryLogs {
     pub alloc: Global,
@@ -33,7 +34,7 @@ impl MemoryLogs {
         })
     }
 
-    /// Writes over what is there, and past the end. Where it fails, what is read stays.
+    /// Writes these bytes, over old ones and past the end. A write that fails changes nothing that is read.
     pub fn write(&mut self, file: u8, place: u64, bytes: &[u8]) -> Result<(), AllocError>
         requires file { file < LOG_COUNT }
         requires place { place ≤ length (read_of self.old.logs.items file) }
@@ -48,7 +49,7 @@ impl MemoryLogs {
         self.logs[file as usize].write(self.alloc, place, bytes)
     }
 
-    /// Keeps a write that failed: a crash may leave any part of it.
+    /// Notes a write that failed, of which a crash may leave any part.
     pub fn miss_write(&mut self, file: u8, place: u64, bytes: &[u8]) -> Result<(), AllocError>
         requires { file < LOG_COUNT }
         ensures err { ReadBecomes file (Torn place (length bytes.now)) self.old.logs.items self.new.logs.items }
@@ -59,7 +60,7 @@ impl MemoryLogs {
         self.logs[file as usize].miss_write(self.alloc, place, bytes)
     }
 
-    /// Cuts a log to its first `len` bytes. Where it fails, what is read stays.
+    /// Cuts a log to its first `len` bytes. A cut that fails changes nothing that is read.
     pub fn cut(&mut self, file: u8, len: u64) -> Result<(), AllocError>
         requires file { file < LOG_COUNT }
         requires len { len ≤ length (read_of self.old.logs.items file) }
@@ -72,7 +73,7 @@ impl MemoryLogs {
         self.logs[file as usize].cut(self.alloc, len)
     }
 
-    /// Keeps a cut that failed: a crash may leave it done.
+    /// Notes a cut that failed, which a crash may leave done.
     pub fn miss_cut(&mut self, file: u8, len: u64) -> Result<(), AllocError>
         requires { file < LOG_COUNT }
         ensures err { ReadBecomes file (MayCut len) self.old.logs.items self.new.logs.items }
@@ -83,7 +84,7 @@ impl MemoryLogs {
         self.logs[file as usize].miss_cut(len)
     }
 
-    /// Makes sure of what is read of a log.
+    /// Puts what is read of a log on the disk.
     pub fn sync(&mut self, file: u8) -> Result<(), AllocError>
         requires { file < LOG_COUNT }
         ensures settled { OnOk result

@@ -1,4 +1,5 @@
-// A count of calls that a disk, a yard and its builds share.
+//! A count of calls that a disk, a yard and its builds share.
+
 ghost use Rattle.std.specs.Prelude.{◌≡◌, ℕ, IfOk};
 ghost use Rattle.std.specs.Arc.{arc_value};
 ghost use Rattle.disk_memory.specs.Plans.{IsVerdict};
@@ -14,14 +15,14 @@ struct Calls {
     made: AtomicU64,
 }
 
-/// Counts the calls of a disk, a yard and its builds together, and says by one plan what is to become of each.
+/// Counts the calls of a disk, a yard and its builds together, and decides by one plan which of them fail.
 #[derive(Drop)]
 pub struct Meter {
     calls: Arc<Calls>,
 }
 
 impl Meter {
-    /// Nothing was called yet.
+    /// A meter that has counted nothing.
     pub fn new(alloc: Global, plan: Plan) -> Result<Self, AllocError>
         ensures { IfOk result (λ meter. (arc_value meter.calls).plan ≡ plan) }
     {
@@ -35,7 +36,7 @@ impl Meter {
         Ok(Meter { calls })
     }
 
-    /// One that counts the same calls.
+    /// A meter that counts the same calls.
     pub fn share(&self) -> Result<Self, AllocError>
         ensures { IfOk result (λ meter. arc_value meter.calls ≡ arc_value self.now.calls) }
     {
@@ -48,7 +49,7 @@ impl Meter {
         self.calls.made.load(Ordering::SeqCst)
     }
 
-    /// Counts a call, and says what is to become of it.
+    /// Counts a call, and decides whether it fails.
     pub fn next(&self) -> Verdict
         ensures { (call : ℕ) × IsVerdict (arc_value self.now.calls).plan call result }
     {

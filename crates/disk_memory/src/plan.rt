@@ -1,8 +1,9 @@
-// Which calls are to fail.
+//! Which calls are to fail.
+
 ghost use Rattle.std.specs.Prelude.{◌↔◌, IsTrue};
 ghost use Rattle.disk_memory.specs.Plans.{IsPast, IsListed, IsVerdict};
 
-/// What is to become of a call.
+/// Whether a call is done or fails.
 #[derive(Clone, Copy, Debug, PartialEq, Eq)]
 pub enum Verdict {
     Goes,
@@ -35,7 +36,7 @@ impl Plan {
         self.failing.contains(&call)
     }
 
-    /// What is to become of a call. The stop counts before the list.
+    /// Whether a call is done or fails. The stop goes before the list.
     pub fn verdict(&self, call: u64) -> Verdict
         ensures { IsVerdict self.now call result }
     {

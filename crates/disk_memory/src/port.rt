@@ -1,4 +1,5 @@
-// A port in memory.
+//! A port in memory.
+
 ghost use Rattle.std.specs.Prelude.{◌≡◌};
 
 use crate::faults::Faults;

@@ -1,8 +1,9 @@
-// Stores in memory.
+//! Stores in memory.
+
 ghost use Rattle.std.specs.Prelude.{◌≡◌, ◌<◌, IfOk, ℕ, length, vec_len};
 ghost use Rattle.disk_model.specs.Worlds.{IsBlank};
 ghost use Rattle.disk_model.specs.declared.disk.TheConstants.{LOG_COUNT};
-ghost use Rattle.disk_memory.specs.Held.{AreBlank};
+ghost use Rattle.disk_memory.specs.CrashStates.{AreBlank};
 
 use crate::disk::MemoryDisk;
 use crate::meter::Meter;

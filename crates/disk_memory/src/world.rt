@@ -1,4 +1,5 @@
-// A world in memory.
+//! A world in memory.
+
 ghost use Rattle.std.specs.Prelude.{◌≤◌, vec_len};
 
 mod calls;

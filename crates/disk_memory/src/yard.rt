@@ -1,4 +1,5 @@
-// A yard in memory.
+//! A yard in memory.
+
 ghost use Rattle.std.specs.Prelude.{◌≡◌, ◌≤◌, Some, IfSome, ℕ};
 ghost use Rattle.disk_model.specs.Files.{nothing};
 ghost use Rattle.std.specs.Ordering.{nat_cmp};

@@ -1,12 +1,13 @@
 -- Writes and cuts that were done, torn, or not done.
-use Rattle.std.proofs.Common.{◌≡◌, inr, ℕ, ◌+◌, List, ◌++◌, length, take, drop, refl, sym, append_assoc, length-append, arith, max, ◌≤◌}
+use Rattle.std.proofs.Common.{◌≡◌, inr, ℕ, ◌+◌, List, ◌++◌, length, take, drop, refl, sym, append_assoc, length-append, arith}
 use Rattle.std.proofs.lemmas.List.{take-append-drop, drop-drop}
 use Rattle.std.proofs.lemmas.Grind.{common_steps}
 use Rattle.std.proofs.Math.Seq.{take-append_seam, drop-append_seam}
 use Rattle.disk_model.specs.Logs.{written_at, Torn, MayCut}
 
 -- three parts of a list
-pub parts : (place n : ℕ) (bytes : List ℕ) → take place bytes ++ take n (drop place bytes) ++ drop (place + n) bytes ≡ bytes
+pub parts : (place n : ℕ) (bytes : List ℕ) → take place bytes ++ take n (drop place bytes) ++ drop (place + n) bytes ≡
+    bytes
 parts place n bytes =
     rw (← drop-drop n place bytes, append_assoc, take-append-drop n (drop place bytes)) (take-append-drop place bytes)
 

@@ -1,7 +1,7 @@
--- Counts of faults, and when an answer may blame one.
+-- Counts of faults, and when a call may return a fault.
 use Rattle.std.specs.Prelude.{ℕ, ◌+◌, ◌-◌, ◌^◌, ◌≤◌, min, Result, OnErr}
 
--- the count rose, or stands at its end
+-- the count rose, or is at its maximum
 abbrev pub Rose : ℕ → ℕ → Type 0
 Rose before now = min (before + 1) (2 ^ 64 - 1) ≤ now
 

@@ -1,4 +1,4 @@
--- How one value of many changes, and what is told of it.
+-- How one value of many changes, and how a value changes that is told or not.
 use Rattle.std.specs.Prelude.{◌≡◌, ◌≢◌, ℕ, Option, Some, None, IsSomeAnd}
 
 -- any change
@@ -10,7 +10,7 @@ pub record OnlyAt {A : Type 0} (place : ℕ) (change : A → A → Type 0) (old 
   pub here : change (old place) (new place)
   pub others : (other : ℕ) → other ≢ place → new other ≡ old other
 
--- what is told changes so; what isn't told stays untold
+-- a value that is told changes so; one that isn't told stays untold
 abbrev pub Becomes : {A : Type 0} → (A → A → Type 0) → Option A → Option A → Type 0
 Becomes change None new = new ≡ None
 Becomes change (Some old) new = IsSomeAnd new (change old)

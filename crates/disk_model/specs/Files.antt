@@ -11,8 +11,8 @@ abbrev pub nothing : Slot
 nothing = record { sealed = None; mark = None }
 
 -- a build was begun under this mark, and nothing is sealed
-abbrev pub Begins : ℕ → Slot → Slot → Type 0
-Begins mark old new = new ≡ record { sealed = None; mark = Some mark }
+abbrev pub BeginsBuild : ℕ → Slot → Slot → Type 0
+BeginsBuild mark old new = new ≡ record { sealed = None; mark = Some mark }
 
 -- the number is emptied
 abbrev pub Empties : Slot → Slot → Type 0

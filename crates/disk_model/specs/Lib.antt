@@ -2,6 +2,7 @@ pub mod Causes
 pub mod Changes
 pub mod Logs
 pub mod Moments
+pub mod Stretches
 pub mod Streams
 pub mod Files
 pub mod Worlds

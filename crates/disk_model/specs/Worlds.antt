@@ -1,7 +1,7 @@
 -- What a world hands out and takes back.
 use Rattle.std.specs.Prelude.{◌≡◌, ◌⊎◌, ℕ, ◌<◌, List, [], ◌∷◌, ◌++◌, Option, Some, None, IfSome, Result, MatchResult, slice_get, length}
 use Rattle.disk_model.specs.declared.disk.TheConstants.{LOG_COUNT}
-use Rattle.disk_model.specs.Logs.{Image, Outcomes, Settled}
+use Rattle.disk_model.specs.Logs.{Image, CrashImages, Settled}
 use Rattle.disk_model.specs.Files.{Slot, nothing}
 
 -- what was handed out, in order, and what was put back, in that order; none where a put that failed doesn't tell it
@@ -29,7 +29,7 @@ abbrev pub directory_due : {A : Type 0} → Handed A → List (List ℕ) → Opt
 directory_due stores directories = slice_get directories (length stores.back)
 
 -- four logs of one zero byte each, on the disk, and no sealed file
-pub record IsBlank (seen : Option Image) (may_leave : Outcomes) (holds : Option (ℕ → Slot)) : Type 0 where
+pub record IsBlank (seen : Option Image) (may_leave : CrashImages) (holds : Option (ℕ → Slot)) : Type 0 where
   pub logs : IfSome seen (λ image. (file : ℕ) → file < LOG_COUNT → image file ≡ 0 ∷ [])
   pub settled : (file : ℕ) → file < LOG_COUNT → Settled file seen may_leave
   pub files : IfSome holds (λ slots. (number : ℕ) → slots number ≡ nothing)

@@ -1,5 +1,5 @@
-// The answer of a device that failed.
+//! The error of a device that failed.
 
-/// The outside failed. The count of faults of the object that answers it rose in that call.
+/// A device failed. In the call that returns this the object's count of faults has risen.
 #[derive(Clone, Copy, Debug, PartialEq, Eq, Drop)]
 pub struct Failed;

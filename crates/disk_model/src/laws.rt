@@ -1,9 +1,10 @@
-// Laws of the disk model, each as the contract of a function that does nothing.
+//! Laws of the disk model, each as the contract of a function that does nothing.
+
 ghost use Rattle.std.specs.Prelude.{◌≡◌, ◌≢◌, ◌<◌};
 ghost use Rattle.disk_model.specs.Changes.{Any, OnlyAt, Becomes};
 ghost use Rattle.disk_model.specs.Logs.{Follows, Settled};
-ghost use Rattle.disk_model.specs.Moments.{Elapses};
 ghost use Rattle.disk_model.specs.Laws.{WholeWritesAreTorn, OtherBytesStay, AddsUp};
+ghost use Rattle.disk_model.specs.Stretches.{IsAfterCall};
 
 use crate::disk::Disk;
 
@@ -22,12 +23,10 @@ pub fn other_logs_stay_settled<D: Disk>(before: &D, after: &D, file: u8, other: 
     ensures { Settled other (D.seen after.now) (D.may_leave after.now) }
 {}
 
-/// The images since a moment, after two stretches of time, are those before and those that the two may leave.
+/// What a crash might have left since a time, two calls later, is what it might have left before, and what it may leave
+/// after either call.
 pub fn since_adds_up<D: Disk>(first: &D, middle: &D, last: &D)
-    requires earlier { Elapses (D.moment first.now) (D.moment middle.now) (D.left_since first.now)
-        (D.left_since middle.now) (D.may_leave middle.now) }
-    requires later { Elapses (D.moment middle.now) (D.moment last.now) (D.left_since middle.now)
-        (D.left_since last.now) (D.may_leave last.now) }
-    ensures { AddsUp (D.moment first.now) (D.left_since first.now) (D.left_since last.now)
-        (D.may_leave middle.now) (D.may_leave last.now) }
+    requires earlier { IsAfterCall D.Disk first.now middle.now }
+    requires later { IsAfterCall D.Disk middle.now last.now }
+    ensures { AddsUp D.Disk first.now middle.now last.now }
 {}

@@ -1,5 +1,5 @@
-//! What a database meets outside: logs on a disk, sealed files in a yard, streams, and the world that hands them out.
-//! Each is a trait whose ghost members tell what it holds and which faults it met.
+//! What a database needs from outside: logs on a disk, sealed files in a yard, streams, and the world that hands them
+//! out. Each is a trait. Its ghost members tell what it holds and how often it has failed.
 #![tactic(auto)]
 
 mod disk;

@@ -1,4 +1,5 @@
-// Reading sealed files.
+//! Reading sealed files.
+
 ghost use Rattle.std.specs.Prelude.{◌≡◌, ◌≤◌, ◌+◌, ℕ, List, length, take, drop, OnOk, IfSome};
 ghost use Rattle.disk_model.specs.Causes.{HasCause};
 

@@ -1,4 +1,5 @@
-// A source and a sink of bytes.
+//! A source and a sink of bytes.
+
 ghost use Rattle.std.specs.Prelude.{◌≡◌, ℕ, List, take, MatchResult, Option};
 ghost use Rattle.std.specs.Io.{ReadsAtMost};
 ghost use Rattle.std.specs.Io.KnownBytes.{ReadConsumes};

@@ -1,4 +1,5 @@
-// The world, which hands out stores, clients and ports, and takes stores and clients back.
+//! The world, which hands out stores, clients and ports, and takes stores and clients back.
+
 ghost use Rattle.std.specs.Prelude.{◌≡◌, ◌≢◌, ◌<◌, ◌++◌, ◌∷◌, [], List, ℕ, length, take, slice_get, MatchResult, MatchOption, IfOk, OnOk, OnErr, IfSome, Option, Some, None, Ok, ◌⊎◌};
 ghost use Rattle.disk_model.specs.Causes.{HasCause};
 ghost use Rattle.disk_model.specs.Streams.{Adds};
@@ -43,8 +44,8 @@ pub trait World {
     /// How often the world has failed.
     ghost faults: { Self → ℕ };
 
-    /// What stands in a directory, where it is told: none is a directory without files.
-    ghost stands: { Self → List ℕ → Option (Option (Store Self.Disk Self.Yard)) };
+    /// The store in a directory, where it is told: none is a directory without files.
+    ghost stored: { Self → List ℕ → Option (Option (Store Self.Disk Self.Yard)) };
 
     /// The stores that were handed out and put back, each as it was then.
     ghost stores: { Self → Handed (Store Self.Disk Self.Yard) };
@@ -65,24 +66,24 @@ pub trait World {
         ensures directory { MatchResult result
             (λ _. directories self.new ≡ directories self.old ++ dir.now ∷ [])
             (λ _. directories self.new ≡ directories self.old) }
-        ensures stood { IfOk result (λ store. IfSome (stands self.old dir.now)
-            (λ found. IfSome found (λ stood. store ≡ stood))) }
-        ensures blank { IfOk result (λ store. stands self.old dir.now ≡ Some None
+        ensures was_stored { IfOk result (λ store. IfSome (stored self.old dir.now)
+            (λ found. IfSome found (λ was_stored. store ≡ was_stored))) }
+        ensures blank { IfOk result (λ store. stored self.old dir.now ≡ Some None
             → IsBlank (Self.Disk.seen store.disk) (Self.Disk.may_leave store.disk) (Self.Yard.holds store.yard)) }
-        ensures kept { OnErr result (stands self.new ≡ stands self.old) }
-        ensures others { (other : List ℕ) → other ≢ dir.now → stands self.new other ≡ stands self.old other }
+        ensures kept { OnErr result (stored self.new ≡ stored self.old) }
+        ensures others { (other : List ℕ) → other ≢ dir.now → stored self.new other ≡ stored self.old other }
         ensures clients { clients self.new ≡ clients self.old }
         ensures printed { printed self.new ≡ printed self.old }
         ensures cause { HasCause (faults self.old) (faults self.new) result };
 
-    /// Takes back the first store that was not yet put back, which then stands in its directory.
+    /// Takes back the first store that wasn't put back yet. From then on it is the store in its directory.
     fn put_store(&mut self, store: Store<Self::Disk, Self::Yard>) -> Result<(), Failed>
         requires { length (stores self.old).back < length (stores self.old).out }
         ensures back { Returns result store (stores self.old) (stores self.new) }
-        ensures stands { OnOk result (IfSome (directory_due (stores self.old) (directories self.old))
-            (λ dir. IfSome (stands self.new dir) (λ found. found ≡ Some store))) }
+        ensures stored { OnOk result (IfSome (directory_due (stores self.old) (directories self.old))
+            (λ dir. IfSome (stored self.new dir) (λ found. found ≡ Some store))) }
         ensures others { (other : List ℕ) → directory_due (stores self.old) (directories self.old) ≢ Some other
-            → stands self.new other ≡ stands self.old other }
+            → stored self.new other ≡ stored self.old other }
         ensures directories { directories self.new ≡ directories self.old }
         ensures clients { clients self.new ≡ clients self.old }
         ensures printed { printed self.new ≡ printed self.old }
@@ -97,11 +98,11 @@ pub trait World {
             (λ _. clients self.new ≡ clients self.old) }
         ensures stores { stores self.new ≡ stores self.old }
         ensures directories { directories self.new ≡ directories self.old }
-        ensures stands { stands self.new ≡ stands self.old }
+        ensures stored { stored self.new ≡ stored self.old }
         ensures printed { printed self.new ≡ printed self.old }
         ensures cause { HasCause (faults self.old) (faults self.new) result };
 
-    /// Takes back the first client that was not yet put back.
+    /// Takes back the first client that wasn't put back yet.
     fn put_client(
         &mut self,
         client: Client<Self::Source, Self::Sink, Self::Port>,
@@ -110,7 +111,7 @@ pub trait World {
         ensures back { Returns result client (clients self.old) (clients self.new) }
         ensures stores { stores self.new ≡ stores self.old }
         ensures directories { directories self.new ≡ directories self.old }
-        ensures stands { stands self.new ≡ stands self.old }
+        ensures stored { stored self.new ≡ stored self.old }
         ensures printed { printed self.new ≡ printed self.old }
         ensures cause { HasCause (faults self.old) (faults self.new) result };
 
@@ -118,7 +119,7 @@ pub trait World {
     fn port(&mut self) -> Result<Self::Port, Failed>
         ensures stores { stores self.new ≡ stores self.old }
         ensures directories { directories self.new ≡ directories self.old }
-        ensures stands { stands self.new ≡ stands self.old }
+        ensures stored { stored self.new ≡ stored self.old }
         ensures clients { clients self.new ≡ clients self.old }
         ensures printed { printed self.new ≡ printed self.old }
         ensures cause { HasCause (faults self.old) (faults self.new) result };
@@ -128,7 +129,7 @@ pub trait World {
         ensures printed { Adds result (printed self.old) (printed self.new) bytes.now }
         ensures stores { stores self.new ≡ stores self.old }
         ensures directories { directories self.new ≡ directories self.old }
-        ensures stands { stands self.new ≡ stands self.old }
+        ensures stored { stored self.new ≡ stored self.old }
         ensures clients { clients self.new ≡ clients self.old }
         ensures cause { HasCause (faults self.old) (faults self.new) result };
 

@@ -1,13 +1,14 @@
-// Sealed files, the builds that make them, and the yard that holds them by number.
+//! Sealed files, the builds that make them, and the yard that holds them by number.
+
 ghost use Rattle.std.specs.Prelude.{◌≡◌, ◌≤◌, ℕ, List, [], length, take, Option, Some, None, Result, IfOk, OnOk, OnErr, MatchResult, IsNone, ◌↔◌, IfSome};
 ghost use Rattle.disk_model.specs.Causes.{HasCause};
 ghost use Rattle.disk_model.specs.Streams.{Adds};
 ghost use Rattle.disk_model.specs.Changes.{OnlyAt, Becomes};
-ghost use Rattle.disk_model.specs.Files.{Slot, Begins, Empties, MayLose, Admits};
+ghost use Rattle.disk_model.specs.Files.{Slot, BeginsBuild, Empties, MayLose, Admits};
 
 use crate::failed::Failed;
 
-/// A fixed list of bytes, which can be read as long as the value lives, also once its number is removed.
+/// A file that no longer changes. It can be read as long as the value lives, also after its number is removed.
 pub trait SealedFile: Send + Sync + Drop {
     /// Its number in the yard.
     ghost number: { Self → ℕ };
@@ -85,7 +86,7 @@ pub trait Yard: Send + Drop {
     /// Where it fails, the number has what it had, or nothing.
     fn fresh(&mut self, number: u64) -> Result<Self::Build, Failed>
         ensures begun { IfOk result (λ build.
-            Becomes (OnlyAt number (Begins (Self.Build.mark build))) (holds self.old) (holds self.new)) }
+            Becomes (OnlyAt number (BeginsBuild (Self.Build.mark build))) (holds self.old) (holds self.new)) }
         ensures name { IfOk result (λ build. Self.Build.number build ≡ number) }
         ensures empty { IfOk result (λ build. IfSome (holds self.old) (λ _. Self.Build.given build ≡ Some [])) }
         ensures broken { OnErr result (Becomes (OnlyAt number MayLose) (holds self.old) (holds self.new)) }
@@ -108,7 +109,7 @@ pub trait Yard: Send + Drop {
         ensures broken { OnErr result (Becomes (OnlyAt number MayLose) (holds self.old) (holds self.new)) }
         ensures cause { HasCause (faults self.old) (faults self.new) result };
 
-    /// From here on the number holds the file. It takes no memory and can't fail.
+    /// Puts a sealed file in at its number. It takes no memory and can't fail.
     fn admit(&mut self, file: &Self::File)
         requires { IfSome (holds self.old)
             (λ slots. (slots (Self.File.number file.now)).mark ≡ Some (Self.File.mark file.now)) }

@@ -4,16 +4,16 @@ use Rattle.std.proofs.Common.{arith}
 use Rattle.std.proofs.lemmas.Result.{MatchResult-at_err, MatchResult-at_ok}
 use Rattle.std.specs.Result.{is_err}
 use Rattle.disk_model.specs.Causes.{Rose}
-use Rattle.disk_model.specs.Logs.{Image, Outcomes}
+use Rattle.disk_model.specs.declared.disk.Disk
 use Rattle.doc_model.specs.declared.op.Op.{Op}
 use Rattle.doc_engine.specs.Checks.{HasRoom}
 use Rattle.frame_log.specs.Calls.{AppendRefused, HasAppended}
-use Rattle.frame_log.specs.Standing.{IsDown, IsUp, end_of}
+use Rattle.frame_log.specs.LogStates.{IsDown, IsUp, end_of}
 use Rattle.frame_log.specs.declared.log.Log.{Log}
 use Rattle.frame_log.specs.declared.refusal.LogRefusal.{LogRefusal}
 use Rattle.frame_log.specs.declared.refusal.LogRefusal.TheVariants.{Down, Fault, Long}
 use Rattle.journal.specs.Calls.{Appends}
-use Rattle.journal.specs.Standing.{current_log, current_of, log_of}
+use Rattle.journal.specs.JournalStates.{current_log, current_of, log_of}
 use Rattle.journal.specs.declared.journal.Journal.{Journal}
 
 pub err_of : {T E : Type 0} (r : Result T E) → is_err r ≡ true → (e : E) × (r ≡ Err e)
@@ -37,25 +37,24 @@ module _ {D : Type 0} (faults : D → ℕ) (old new : Log) (before after : D) (b
   only_faults (Long end) up room refused = absurd (omega (arith, refused.2, room))
   only_faults Fault up room refused = (refused.1.0, refused.2)
 
-module _ {D : Type 0} (seen : D → Option Image) (may_leave : D → Outcomes) (moment : D → ℕ)
-    (left_since : D → ℕ → Outcomes) (faults : D → ℕ) (old new : Journal) (before after : D) (frame : List ℕ)
+module _ {D : Type 0} (of_disk : Disk.Ghosts D) (old new : Journal) (before after : D) (frame : List ℕ)
     (result : Result (Unit {0}) LogRefusal)
-    (entry : Appends seen may_leave moment left_since faults (current_of old) frame old new before after result) where
+    (entry : Appends of_disk (current_of old) frame old new before after result) where
   -- where a journal refuses it
   pub breaks : (e : LogRefusal) → result ≡ Err e → IsUp (current_log old)
       → end_of (current_log old) + 10 + length frame ≤ 2 ^ 62
-      → IsDown (log_of new (current_of old)) × Rose (faults before) (faults after)
+      → IsDown (log_of new (current_of old)) × Rose (of_disk.faults before) (of_disk.faults after)
   breaks e is up room =
       let was = log_of old (current_of old) in
       let now = log_of new (current_of old) in
-      only_faults faults was now before after (length frame) e up room
-      (MatchResult-at_err (λ _. HasAppended faults was now before after (length frame))
-      (AppendRefused faults was now before after (length frame)) e is entry.answer.answer)
+      only_faults of_disk.faults was now before after (length frame) e up room
+      (MatchResult-at_err (λ _. HasAppended of_disk.faults was now before after (length frame))
+      (AppendRefused of_disk.faults was now before after (length frame)) e is entry.answer.answer)
 
   -- and where it has it
   pub is_up : result ≡ Ok tt → IsUp (log_of new (current_of old))
   is_up is =
       let was = log_of old (current_of old) in
       let now = log_of new (current_of old) in
-      (MatchResult-at_ok (λ _. HasAppended faults was now before after (length frame))
-      (AppendRefused faults was now before after (length frame)) tt is entry.answer.answer).1
+      (MatchResult-at_ok (λ _. HasAppended of_disk.faults was now before after (length frame))
+      (AppendRefused of_disk.faults was now before after (length frame)) tt is entry.answer.answer).1

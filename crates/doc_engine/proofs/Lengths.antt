@@ -3,8 +3,8 @@ use Rattle.std.proofs.Common.{◌≡◌, ◌+◌, ℕ, List, length, ap, arith}
 use Rattle.doc_model.specs.declared.entry.Entry.TheVariants.{Commit}
 use Rattle.doc_model.specs.declared.op.Op.{Op}
 use Rattle.doc_engine.specs.Checks.{IsShort, end_with}
-use Rattle.frame_log.specs.Standing.{end_of}
-use Rattle.journal.specs.Standing.{current_log}
+use Rattle.frame_log.specs.LogStates.{end_of}
+use Rattle.journal.specs.JournalStates.{current_log}
 use Rattle.journal.specs.declared.journal.Journal.{Journal}
 use Rattle.journal_bodies.specs.Entries.{HasValues, entry}
 use Rattle.journal_meaning.proofs.LengthLemmas.{commit_is_short, commit_length}

@@ -2,7 +2,7 @@ pub mod Expected
 pub mod Stamps
 pub mod Same
 pub mod Entered
-pub mod Standings
+pub mod Representations
 pub mod Appending
 pub mod Entering
 pub mod Refusing

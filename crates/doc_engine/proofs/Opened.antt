@@ -8,27 +8,28 @@ use Rattle.std.proofs.lemmas.List.{get_or-replicate, get_or_past, length-replica
 use Rattle.std.specs.Cmp.Lexicographic.{slice_cmp}
 use Rattle.std.specs.FinMap.{empty, get-empty}
 use Rattle.std.specs.Ordering.{nat_cmp}
-use Rattle.disk_model.specs.Logs.{Image, Outcomes}
+use Rattle.disk_model.specs.Logs.{Image}
 use Rattle.disk_model.specs.declared.disk.TheConstants.{LOG_COUNT}
+use Rattle.disk_model.specs.declared.disk.Disk
 use Rattle.doc_model.specs.declared.entry.Entry.{Entry}
 use Rattle.doc_model.specs.declared.entry.Entry.TheVariants.{Commit, Forget}
 use Rattle.doc_engine.proofs.Stamps.{entries_by}
 use Rattle.doc_engine.specs.Created.{CreatedBy}
-use Rattle.doc_engine.specs.Finding.{Finds, Holds}
-use Rattle.doc_engine.specs.Held.{Held}
+use Rattle.doc_engine.specs.Finding.{Finds, IsOrdered, opened_state}
+use Rattle.doc_engine.specs.EngineState.{EngineState, IsAt, IsReadStateOf, ReadState}
 use Rattle.doc_engine.specs.Opening.{BeginsAt, Opens, begins, longest_of}
 use Rattle.doc_engine.specs.Restoring.{Restores}
-use Rattle.doc_engine.specs.Standing.{StandsFor}
+use Rattle.doc_engine.specs.Representing.{RepresentsHistory}
 use Rattle.doc_engine.specs.declared.found.Found.{Found}
 use Rattle.doc_engine.specs.declared.restoring.Restored.{Restored}
 use Rattle.doc_meaning.proofs.HistoryLemmas.{shown_is_the_same}
-use Rattle.doc_meaning.specs.History.{Base, Database, after_entries, base_at, front, latest, merge, merge_after}
+use Rattle.doc_meaning.specs.History.{Base, Database, History, after_entries, base_at, front, latest, merge, merge_after}
 use Rattle.doc_meaning.specs.History.{settings_of, shown}
 use Rattle.frame_log.proofs.Bytes.{ends_within}
 use Rattle.frame_log.specs.Frames.{HasFrames, framed}
-use Rattle.frame_log.specs.Standing.{IsTouched, IsUp, end_of}
+use Rattle.frame_log.specs.LogStates.{IsGateUnknown, IsUp, end_of}
 use Rattle.journal.specs.Opening.{Opened}
-use Rattle.journal.specs.Standing.{AreUp, current_log, current_of}
+use Rattle.journal.specs.JournalStates.{AreUp, current_log, current_of}
 use Rattle.journal.specs.declared.journal.Journal.{Journal}
 use Rattle.journal.specs.declared.opening.Scanned.{Scanned}
 use Rattle.journal_meaning.proofs.AlikeLemmas.{shown_begins}
@@ -93,15 +94,15 @@ frames_within : (read : Bodies) (image : Image) (resets : Bool) (file : ℕ) →
 frames_within read image true file lt has = none_or_within (file == 0) (read file) (image file) (has file lt)
 frames_within read image false file lt has = none_or_within false (read file) (image file) (has file lt)
 
-module _ {D : Type 0} (seen : D → Option Image) (may_leave : D → Outcomes) (image : Image) (disk : D)
-    (journal : Journal) (scanned : Scanned) (opened : Opened seen may_leave image disk journal scanned) where
+module _ {D : Type 0} (of_disk : Disk.Ghosts D) (image : Image) (disk : D)
+    (journal : Journal) (scanned : Scanned) (opened : Opened of_disk image disk journal scanned) where
   -- the journal that goes on ends within the journals that were read
   ends_early : end_of (current_log journal) ≤ longest_of image
   ends_early =
       let file = current_of journal in
       let journals : file ≤ 1 = journal.is_journal in
       let lt : file < LOG_COUNT = omega (arith, journals) in
-      let at_end = (opened.stands.each file lt).at_end in
+      let at_end = (opened.represents.each file lt).at_end in
       let short = frames_within opened.read image opened.resets file lt opened.has in
       within_longest image file (end_of (current_log journal)) journals (omega (arith, at_end, short))
 
@@ -130,7 +131,7 @@ module _ {D : Type 0} (seen : D → Option Image) (may_leave : D → Outcomes) (
 
     pub finds : (found : Found) → found.journal ≡ journal → found.settings ≡ scanned.root.settings
         → found.restored ≡ restored
-        → Finds seen may_leave image disk found
+        → Finds of_disk image disk found
     finds found journals settings restoreds =
         record {
           format = record {
@@ -146,27 +147,30 @@ module _ {D : Type 0} (seen : D → Option Image) (may_leave : D → Outcomes) (
                 same = shows.shown ∙ ap shown one;
                 ordered = subst (λ h. merge h ≤ front h) one shows.ordered;
               };
-          front = ap (λ (r : Restored). r.front) restoreds ∙ restored_front;
-          merge = ap (λ (r : Restored). r.merge) restoreds ∙ restored_merge;
-          settings = ap settings_of settings ∙ sym opened.scans.base.settings;
-          documents = ap (λ (r : Restored). r.live) restoreds ∙ restored_live;
-          stands = λ ordered. subst (λ j. StandsFor seen may_leave j disk opened.history None) (sym journals) (record {
-            told = opened.history;
-            kept = cond opened.resets (without_first opened.read) opened.read;
-            more = no_bodies;
-            same = refl;
-            ordered = ordered;
-            tells = opened.tells;
-            leaves = refl;
-            follows = tt;
-            stands = opened.stands;
-            up = opened.up;
-          });
+          state = record {
+            front = ap (λ (r : Restored). r.front) restoreds ∙ restored_front;
+            merge = ap (λ (r : Restored). r.merge) restoreds ∙ restored_merge;
+            settings = ap settings_of settings ∙ sym opened.scans.base.settings;
+            documents = ap (λ (r : Restored). r.live) restoreds ∙ restored_live;
+          };
+          represents = λ ordered. subst (λ j. RepresentsHistory of_disk j disk opened.history None)
+              (sym journals) (record {
+                told = opened.history;
+                kept = cond opened.resets (without_first opened.read) opened.read;
+                more = no_bodies;
+                same = refl;
+                ordered = ordered;
+                tells = opened.tells;
+                leaves = refl;
+                follows = tt;
+                represents = opened.represents;
+                up = opened.up;
+              });
           longest = subst (λ j. end_of (current_log j) ≤ longest_of image) (sym journals) ends_early;
         }
 
 -- the gate of a log that isn't down isn't touched
-pub not_touched : (journal : Journal) → AreUp journal → IsTouched (current_log journal) → ⊥
+pub not_touched : (journal : Journal) → AreUp journal → IsGateUnknown (current_log journal) → ⊥
 not_touched journal up touched =
     let here : IsUp (current_log journal) = up (current_of journal) (omega (arith, journal.is_journal)) in
     cc (here, touched)
@@ -183,52 +187,52 @@ restored_by checkpoint low entries restored restores = subst₂ CreatedBy (sym r
 pub latest_begins : (base : Base) → latest (begins base) ≡ base_at base base.front
 latest_begins base = latest_over base []
 
--- an engine that holds what was found is at the base that is shown
-begins_at : {D : Type 0} (seen : D → Option Image) (may_leave : D → Outcomes) (image : Image) (disk : D) (found : Found)
-    (held : Held) (finds : Finds seen may_leave image disk found) → Holds found held
-    → Shows image (shown finds.format.history) → merge finds.format.history ≤ front finds.format.history
-    → BeginsAt seen may_leave (shown finds.format.history) held found.journal disk
-begins_at seen may_leave image disk found held finds holds shows ordered =
-    let h = finds.format.history in
-    let stands = finds.stands ordered in
-    let is_base = what_is_shown_is_a_base image (shown h) shows in
-    record {
-      is_at = record {
-        front = omega (arith, holds.front, finds.front);
-        merge = holds.merge ∙ finds.merge;
-        settings = holds.settings ∙ finds.settings;
-        documents = holds.documents ∙ finds.documents ∙ sym (latest_begins (shown h)
-            ∙ shown_is_the_same h (front h) ordered (omega arith));
-      };
-      stands = record {
-        told = stands.told;
-        kept = stands.kept;
-        more = stands.more;
-        same = stands.same ∙ sym (shown_begins h is_base);
-        ordered = omega (arith, ordered);
-        tells = stands.tells;
-        leaves = stands.leaves;
-        follows = tt;
-        stands = stands.stands;
-        up = stands.up;
-      };
-    }
-
--- it is up, and at each base that is shown
-pub opens : {D : Type 0} (seen : D → Option Image) (may_leave : D → Outcomes) (image : Image) (disk : D) (found : Found)
-    (held : Held) → Finds seen may_leave image disk found → Holds found held → held.down ≡ None
-    → Opens seen may_leave image held found.journal disk
-opens seen may_leave image disk found held finds holds up = record {
-  format = finds.format;
-  is_at = record {
-    front = omega (arith, holds.front, finds.front);
-    merge = holds.merge ∙ finds.merge;
-    settings = holds.settings ∙ finds.settings;
-    documents = holds.documents ∙ finds.documents;
-  };
-  up = up;
-  begun = λ base shows.
-      let is = finds.shows base shows in
-      subst (λ b. BeginsAt seen may_leave b held found.journal disk) (sym is.same)
-      (begins_at seen may_leave image disk found held finds holds (subst (Shows image) is.same shows) is.ordered);
+-- what is seen of a history is seen of the base that it shows
+state_begins : (seen : ReadState) (h : History) → IsOrdered h → IsReadStateOf seen h
+    → IsReadStateOf seen (begins (shown h))
+state_begins seen h ordered is = record {
+  front = omega (arith, is.front);
+  merge = is.merge;
+  settings = is.settings;
+  documents = is.documents ∙ sym (latest_begins (shown h) ∙ shown_is_the_same h (front h) ordered (omega arith));
 }
+
+module _ {D : Type 0} (of_disk : Disk.Ghosts D) (image : Image) (disk : D)
+    (found : Found) (finds : Finds of_disk image disk found) (held : EngineState)
+    (is : held ≡ opened_state found) where
+  is_at : IsAt held finds.format.history
+  is_at = subst (λ (e : EngineState). IsAt e finds.format.history) (sym is) finds.state
+
+  -- the engine that holds what was found is at the base that is shown
+  begins_at : Shows image (shown finds.format.history) → IsOrdered finds.format.history
+      → BeginsAt of_disk (shown finds.format.history) held found.journal disk
+  begins_at shows ordered =
+      let h = finds.format.history in
+      let represents = finds.represents ordered in
+      record {
+        is_at = state_begins held.read h ordered is_at;
+        represents = record {
+          told = represents.told;
+          kept = represents.kept;
+          more = represents.more;
+          same = represents.same ∙ sym (shown_begins h (what_is_shown_is_a_base image (shown h) shows));
+          ordered = omega (arith, ordered);
+          tells = represents.tells;
+          leaves = represents.leaves;
+          follows = tt;
+          represents = represents.represents;
+          up = represents.up;
+        };
+      }
+
+  -- it is up, and at each base that is shown
+  pub opens : Opens of_disk image held found.journal disk
+  opens = record {
+    format = finds.format;
+    is_at = is_at;
+    up = ap (λ (e : EngineState). e.down) is;
+    begun = λ base shows.
+        let shown_of = finds.shows base shows in
+        subst (λ b. BeginsAt of_disk b held found.journal disk) (sym shown_of.same)
+        (begins_at (subst (Shows image) shown_of.same shows) shown_of.ordered);
+  }

@@ -3,12 +3,12 @@ use Rattle.std.proofs.Common.{ℕ, List}
 use Rattle.doc_model.specs.declared.op.Op.{Op}
 use Rattle.doc_engine.proofs.Entering.{IsNoFault}
 use Rattle.doc_engine.specs.Checks.{HasNoRoom, MayNotEnter}
-use Rattle.doc_engine.specs.Held.{Held}
+use Rattle.doc_engine.specs.EngineState.{EngineState}
 use Rattle.doc_engine.specs.declared.refusal.CommitRefusal.{CommitRefusal}
 use Rattle.doc_engine.specs.declared.refusal.CommitRefusal.TheVariants as refusal
 use Rattle.journal.specs.declared.journal.Journal.{Journal}
 
-pub check_is_no_fault : (held : Held) (ops : List Op) (why : CommitRefusal) → MayNotEnter held ops why → IsNoFault why
+pub check_is_no_fault : (held : EngineState) (ops : List Op) (why : CommitRefusal) → MayNotEnter held ops why → IsNoFault why
 check_is_no_fault held ops (refusal.Down faults) told = tt
 check_is_no_fault held ops (refusal.Twice uri) told = tt
 check_is_no_fault held ops (refusal.Conflict uri found front) told = tt

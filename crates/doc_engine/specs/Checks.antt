@@ -7,30 +7,30 @@ use Rattle.doc_model.specs.Tree.{is_distinct}
 use Rattle.doc_model.specs.declared.entry.Entry.TheVariants.{Commit}
 use Rattle.doc_model.specs.declared.op.Op.{Op}
 use Rattle.doc_meaning.specs.Replies.{differs, first_twice, last_timestamp}
-use Rattle.doc_engine.specs.Held.{Held}
+use Rattle.doc_engine.specs.EngineState.{EngineState}
 use Rattle.doc_engine.specs.declared.refusal.CommitRefusal.{CommitRefusal}
 use Rattle.doc_engine.specs.declared.refusal.CommitRefusal.TheVariants as refusal
-use Rattle.frame_log.specs.Standing.{end_of}
-use Rattle.journal.specs.Standing.{current_log}
+use Rattle.frame_log.specs.LogStates.{end_of}
+use Rattle.journal.specs.JournalStates.{current_log}
 use Rattle.journal.specs.declared.journal.Journal.{Journal}
 use Rattle.journal_bodies.specs.Entries.{SpellsEntry, entry}
 use Rattle.live_documents.specs.Conflicts.{conflict_at}
 
 -- the engine isn't down, no URI is named twice, and each operation expects the version that is live
-pub record MayEnter (held : Held) (ops : List Op) : Type 0 where
+pub record MayEnter (held : EngineState) (ops : List Op) : Type 0 where
   pub up : held.down ≡ None
   pub once : first_twice [] (map uri_of ops) ≡ None
   pub distinct : IsTrue (is_distinct (map uri_of ops))
-  pub agrees : find (differs held.documents) ops ≡ None
+  pub agrees : find (differs held.read.documents) ops ≡ None
 
 -- why operations may not be entered
-abbrev pub MayNotEnter : Held → List Op → CommitRefusal → Type 0
+abbrev pub MayNotEnter : EngineState → List Op → CommitRefusal → Type 0
 MayNotEnter held ops (refusal.Down faults) = held.down ≡ Some faults
 MayNotEnter held ops (refusal.Twice uri) = (held.down ≡ None) × (first_twice [] (map uri_of ops) ≡ Some uri)
 MayNotEnter held ops (refusal.Conflict uri found front) = (held.down ≡ None) × (first_twice [] (map uri_of ops) ≡ None)
-    × (option_map (conflict_at held.documents) (find (differs held.documents) ops)
+    × (option_map (conflict_at held.read.documents) (find (differs held.read.documents) ops)
     ≡ Some (record { uri = uri; found = found }))
-    × (front ≡ held.front)
+    × (front ≡ held.read.front)
 MayNotEnter held ops (refusal.Spent front end) = ⊥
 MayNotEnter held ops refusal.Fault = ⊥
 MayNotEnter held ops refusal.Memory = held.down ≡ None

@@ -1,6 +1,6 @@
 pub mod Created
-pub mod Held
-pub mod Standing
+pub mod EngineState
+pub mod Representing
 pub mod Checks
 pub mod Calls
 pub mod Laws

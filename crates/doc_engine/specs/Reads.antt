@@ -1,16 +1,34 @@
--- What a snapshot answers.
-use Rattle.std.specs.Prelude.{ℕ, ◌≡◌, List, Option, Some, None, Result, Ok, Err, ⊤}
-use Rattle.doc_engine.specs.Held.{Seen}
+-- What a snapshot returns.
+use Rattle.std.specs.Prelude.{ℕ, ◌≡◌, nat_lt, List, Option, Result, Ok, Err, ⊤, if◌then◌else◌}
+use denote.Ref.{Bor}
+use Rattle.std.specs.FinMap.{get}
+use Rattle.std.specs.Option.{option_copied}
+use Rattle.doc_engine.specs.EngineState.{ReadState}
 use Rattle.doc_engine.specs.declared.refusal.SearchRefusal.{SearchRefusal}
 use Rattle.doc_engine.specs.declared.refusal.SearchRefusal.TheVariants as refusal
+use Rattle.doc_engine.specs.declared.refusal.TooOld.{TooOld}
 use Rattle.doc_meaning.specs.Answers.{answer_in}
-use Rattle.doc_meaning.specs.History.{History, front}
-use Rattle.doc_meaning.specs.Replies.{search_reply}
+use Rattle.doc_meaning.specs.Replies.{unless_bad}
+use Rattle.doc_meaning.specs.declared.replies.ReadReply.{ReadReply}
 use Rattle.doc_meaning.specs.declared.replies.ReadReply.TheVariants as read
+use Rattle.doc_meaning.specs.declared.version.Version.{Version}
 use Rattle.doc_model.specs.Queries.{broken_query_rule}
 use Rattle.doc_model.specs.declared.query.Query.{Query}
 use Rattle.doc_model.specs.declared.refusal.QueryBad.{QueryBad}
 use Rattle.doc_model.specs.declared.refusal.QueryBad.TheVariants as bad
+
+-- the reply to a read at the front: too old where the merge timestamp is past it, else what was found
+abbrev pub read_seen : {T : Type 0} → ReadState → T → ReadReply T
+read_seen seen found = if nat_lt seen.front seen.merge then read.Old seen.front seen.merge else read.Found found
+
+-- the reply to a search at the front: the rule that the query breaks, else what is read
+abbrev pub search_seen : ReadState → Query → ReadReply (List (List ℕ))
+search_seen seen q =
+    unless_bad (broken_query_rule q seen.settings.indexes) (read_seen seen (answer_in seen.documents q))
+
+-- the reply to a get at the front: the live version, or none
+abbrev pub get_seen : ReadState → List ℕ → ReadReply (Option Version)
+get_seen seen uri = read_seen seen (get seen.documents uri)
 
 -- a refusal of a query as one of the search; want of memory for it is want of memory for the search
 abbrev pub refused_as : QueryBad → SearchRefusal
@@ -21,14 +39,14 @@ refused_as bad.NearChild = refusal.Query bad.NearChild
 refused_as (bad.NoRange name kind) = refusal.Query (bad.NoRange name kind)
 refused_as bad.Memory = refusal.Memory
 
--- a search at the front of what is seen: what is found, or the rule that the query breaks; want of memory is free
-abbrev pub Searches : Seen → Query → Result (List (List ℕ)) SearchRefusal → Type 0
-Searches seen q (Ok uris) = (broken_query_rule q seen.settings.indexes ≡ None) × (uris ≡ answer_in seen.documents q)
-Searches seen q (Err (refusal.Query why)) = broken_query_rule q seen.settings.indexes ≡ Some why
-Searches seen q (Err refusal.Memory) = ⊤
+-- a search returned this reply; want of memory is free
+abbrev pub ReturnsSearch : ReadReply (List (List ℕ)) → Result (List (List ℕ)) SearchRefusal → Type 0
+ReturnsSearch reply (Ok uris) = reply ≡ read.Found uris
+ReturnsSearch reply (Err (refusal.Query why)) = reply ≡ read.Bad why
+ReturnsSearch reply (Err (refusal.Old old)) = reply ≡ read.Old old.asked old.merge
+ReturnsSearch reply (Err refusal.Memory) = ⊤
 
--- the answer is the reply of that history to a search at its front; want of memory is free
-abbrev pub RepliesAt : History → Query → Result (List (List ℕ)) SearchRefusal → Type 0
-RepliesAt h q (Ok uris) = search_reply h (front h) q ≡ read.Found uris
-RepliesAt h q (Err (refusal.Query why)) = search_reply h (front h) q ≡ read.Bad why
-RepliesAt h q (Err refusal.Memory) = ⊤
+-- a get returned this reply
+abbrev pub ReturnsGet : ReadReply (Option Version) → Result (Option (Bor Version)) TooOld → Type 0
+ReturnsGet reply (Ok found) = reply ≡ read.Found (option_copied found)
+ReturnsGet reply (Err old) = reply ≡ read.Old old.asked old.merge

@@ -1,13 +1,15 @@
-// What was found of a directory, and the engine that holds it.
-ghost use Rattle.std.specs.Prelude.{◌≡◌, None};
+//! What was found of a directory, and the engine that holds it.
+
+ghost use Rattle.std.specs.Prelude.{◌≡◌};
 ghost use Rattle.doc_engine.specs.Created.{CreatedBy};
-ghost use Rattle.journal.specs.Standing.{AreUp, AreWithin};
+ghost use Rattle.journal.specs.JournalStates.{AreUp, AreWithin};
 
 use crate::engine::Engine;
 use crate::restoring::Restored;
 use disk_model::{Disk, Yard};
 use doc_model::Settings;
 use journal::Journal;
+use live_documents::LiveDocuments;
 use std::alloc::Global;
 
 // The logs, the settings, and what is held in memory.
@@ -18,9 +20,29 @@ pub(crate) struct Found {
     pub restored: Restored,
 }
 
+impl Found {
+    ghost use Rattle.doc_engine.specs.Finding.{BeginsEmpty};
+
+    // Empty logs of these settings.
+    pub(crate) fn new(alloc: Global, journal: Journal, settings: Settings) -> Found
+        ensures { BeginsEmpty journal settings result }
+    {
+        let restored = Restored {
+            front: 0,
+            merge: 0,
+            live: LiveDocuments::new(alloc),
+        };
+        Found {
+            journal,
+            settings,
+            restored,
+        }
+    }
+}
+
 impl<D: Disk, Y: Yard> Engine<D, Y> {
-    ghost use Rattle.doc_engine.specs.Finding.{Holds};
-    ghost use Rattle.doc_engine.specs.Held.{disk_of, held_of, journal_of, yard_of};
+    ghost use Rattle.doc_engine.specs.Finding.{opened_state};
+    ghost use Rattle.doc_engine.specs.EngineState.{disk_of, state_of, journal_of, yard_of};
 
     // The engine that holds what was found, where no log is down.
     pub(crate) fn holding(alloc: Global, disk: D, yard: Y, found: Found) -> Engine<D, Y>
@@ -30,8 +52,7 @@ impl<D: Disk, Y: Yard> Engine<D, Y> {
         ensures disk { disk_of result ≡ disk }
         ensures yard { yard_of result ≡ yard }
         ensures journal { journal_of result ≡ found.journal }
-        ensures held { Holds found (held_of result) }
-        ensures up { (held_of result).down ≡ None }
+        ensures held { state_of result ≡ opened_state found }
     {
         let Found {
             journal,

@@ -13,6 +13,6 @@ mod restoring;
 mod snapshot;
 
 pub use engine::Engine;
-pub use laws::{standing_is_shown, untouched_is_shown};
-pub use refusal::{CommitRefusal, OpenRefused, OpenWhy, Pending, SearchRefusal};
+pub use laws::{represented_is_shown, untouched_is_shown};
+pub use refusal::{CommitRefusal, OpenRefused, OpenWhy, Pending, SearchRefusal, TooOld};
 pub use snapshot::Snapshot;

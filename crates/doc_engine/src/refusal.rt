@@ -1,4 +1,5 @@
-// Why an engine refuses a call.
+//! Why an engine refuses a call.
+
 ghost use Rattle.std.specs.Prelude.{◌≡◌};
 
 use disk_model::FileName;
@@ -7,11 +8,11 @@ use journal::{JournalRefusal, MakeRefusal};
 use std::alloc::AllocError;
 use thiserror::Error;
 
-/// Why a commit was refused, in the order of the checks. Want of memory may stand in place of each but the first; after
-/// every refusal but a fault all is as before.
+/// Why a commit was refused, in the order of the checks. Want of memory may come in place of each but the first. After
+/// every refusal but a fault the engine is as before.
 #[derive(Debug, Drop, Error)]
 pub enum CommitRefusal {
-    /// A log fault stands; the disk's count of faults that was kept then.
+    /// A log is down since this count of the disk's faults.
     #[error("a log is down since fault {faults} of the disk")]
     Down { faults: u64 },
     /// The first URI that an earlier operation named.
@@ -40,12 +41,22 @@ impl From<AllocError> for CommitRefusal {
     }
 }
 
-/// Why a search was refused.
+/// A read at a timestamp below the merge timestamp.
+#[derive(Clone, Copy, Debug, PartialEq, Eq)]
+pub struct TooOld {
+    pub asked: u64,
+    pub merge: u64,
+}
+
+/// Why a search was refused, in the order of the checks.
 #[derive(Debug, Drop, Error)]
 pub enum SearchRefusal {
     /// The first rule that the query breaks.
     #[error("the query breaks a rule")]
     Query(QueryBad),
+    /// The merge timestamp is past the front.
+    #[error("the merge timestamp is past the front")]
+    Old(TooOld),
     #[error("out of memory")]
     Memory,
 }
@@ -58,8 +69,22 @@ impl From<QueryBad> for SearchRefusal {
     fn from(why: QueryBad) -> SearchRefusal {
         match why {
             QueryBad::Memory => SearchRefusal::Memory,
-            why => SearchRefusal::Query(why),
+            QueryBad::TooDeep { .. }
+            | QueryBad::TooMany { .. }
+            | QueryBad::BadDirectory
+            | QueryBad::NearChild
+            | QueryBad::NoRange { .. } => SearchRefusal::Query(why),
         }
+    }
+}
+
+impl From<TooOld> for SearchRefusal {
+    ghost use Rattle.doc_engine.specs.declared.refusal.SearchRefusal.TheVariants.{Old};
+
+    ghost from_gives = { λ old refusal. refusal ≡ Old old };
+
+    fn from(old: TooOld) -> SearchRefusal {
+        SearchRefusal::Old(old)
     }
 }
 

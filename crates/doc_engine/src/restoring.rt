@@ -1,4 +1,5 @@
-// What is held in memory of a history whose entries were read.
+//! What is held in memory of a history whose entries were read.
+
 ghost use Rattle.std.specs.Prelude.{◌≡◌, ◌+◌, [], ◌∷◌, map, IfOk, OnOk};
 ghost use Rattle.doc_engine.specs.Restoring.{Restores};
 ghost use Rattle.doc_meaning.specs.History.{after_entry, merge_after};

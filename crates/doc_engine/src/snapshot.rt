@@ -1,14 +1,13 @@
-// What a reader sees at one moment.
-ghost use Rattle.std.specs.FinMap as map;
-ghost use Rattle.std.specs.Option.{option_copied};
-ghost use Rattle.std.specs.Prelude.{◌≡◌, ◌≤◌};
-ghost use Rattle.doc_engine.specs.Held.{IsSeenOf, view_of};
-ghost use Rattle.doc_engine.specs.Reads.{RepliesAt, Searches};
-ghost use Rattle.doc_meaning.specs.History.{History, front, merge};
-ghost use Rattle.doc_meaning.specs.Replies.{get_reply};
-ghost use Rattle.doc_meaning.specs.declared.replies.ReadReply.TheVariants.{Found};
+//! What a reader sees at one moment.
 
-use crate::refusal::SearchRefusal;
+ghost use Rattle.std.specs.FinMap as map;
+ghost use Rattle.std.specs.Prelude.{◌≡◌, ◌≤◌, ◌<◌, MatchResult};
+ghost use Rattle.doc_engine.specs.EngineState.{IsReadStateOf, view_of};
+ghost use Rattle.doc_engine.specs.Reads.{ReturnsGet, ReturnsSearch, get_seen, search_seen};
+ghost use Rattle.doc_meaning.specs.History.{History, front};
+ghost use Rattle.doc_meaning.specs.Replies.{get_reply, search_reply};
+
+use crate::refusal::{SearchRefusal, TooOld};
 use doc_meaning::Version;
 use doc_model::{Query, Settings, Text, Texts, check_query};
 use live_documents::LiveDocuments;
@@ -46,23 +45,43 @@ impl Snapshot<'_> {
     }
 
     /// The live version of a URI, in time of the logarithm of the number of live documents.
-    pub fn get(&self, uri: &Text) -> Option<&Version>
-        ensures found { option_copied result ≡ map.get (view_of self.now).documents uri.now }
-        ensures reply { (h : History) → IsSeenOf (view_of self.now) h → merge h ≤ front h
-            → get_reply h (front h) uri.now ≡ Found (option_copied result) }
+    ///
+    /// Where the merge timestamp is past the front there is nothing to read.
+    pub fn get(&self, uri: &Text) -> Result<Option<&Version>, TooOld>
+        ensures gets { ReturnsGet (get_seen (view_of self.now) uri.now) result }
+        ensures reply { (h : History) → IsReadStateOf (view_of self.now) h
+            → ReturnsGet (get_reply h (front h) uri.now) result }
     {
-        self.documents.get(uri)
+        self.check_front()?;
+        Ok(self.documents.get(uri))
     }
 
     /// The URIs of the documents that satisfy a query, in the order of their bytes. It evaluates each document.
     ///
-    /// A query that breaks a rule of `QueryBad` is refused before any document is looked at.
+    /// A query that breaks a rule of `QueryBad` is refused first, then a front below the merge timestamp.
     pub fn search(&self, alloc: Global, query: &Query) -> Result<Texts, SearchRefusal>
-        ensures searches { Searches (view_of self.now) query.now result }
-        ensures reply { (h : History) → IsSeenOf (view_of self.now) h → merge h ≤ front h
-            → RepliesAt h query.now result }
+        ensures searches { ReturnsSearch (search_seen (view_of self.now) query.now) result }
+        ensures reply { (h : History) → IsReadStateOf (view_of self.now) h
+            → ReturnsSearch (search_reply h (front h) query.now) result }
     {
         check_query(alloc, query, &self.settings.indexes)?;
+        self.check_front()?;
         Ok(self.documents.answer(alloc, query)?)
+    }
+
+    // Whether the front isn't below the merge timestamp.
+    fn check_front(&self) -> Result<(), TooOld>
+        ensures { MatchResult result
+            (λ _. (view_of self.now).merge ≤ (view_of self.now).front)
+            (λ old. ((view_of self.now).front < (view_of self.now).merge)
+            × (old ≡ record { asked = (view_of self.now).front; merge = (view_of self.now).merge })) }
+    {
+        if self.front < self.merge {
+            return Err(TooOld {
+                asked: self.front,
+                merge: self.merge,
+            });
+        }
+        Ok(())
     }
 }

@@ -7,17 +7,17 @@ use Rattle.doc_model.specs.Tree.{size}
 use Rattle.doc_model.specs.declared.node.Node.{Node}
 use Rattle.doc_meaning.specs.Strings.{strings}
 use Rattle.doc_meaning.proofs.FitLemmas as fit
-use Rattle.doc_meaning.proofs.PlaceLemmas.{length-words_seen}
-use Rattle.doc_filter.specs.declared.worded_string.WordedString.{WordedString}
-use Rattle.doc_filter.specs.Worded.{IsNumbered, worded, worded_strings}
+use Rattle.doc_meaning.proofs.PositionLemmas.{length-words_seen}
+use Rattle.doc_filter.specs.declared.tokenized_string.TokenizedString.{TokenizedString}
+use Rattle.doc_filter.specs.Tokenized.{IsNumbered, tokenized, tokenized_strings}
 
-pub are_numbered : (blind : Bool) (root : Node) → size root < 2 ^ 64 → All IsNumbered (worded_strings blind root)
-are_numbered blind root fits =
-    All-map IsNumbered (worded blind) (strings root)
-    (All-weaker fit.IsNumbered (λ s. IsNumbered (worded blind s))
-    (λ s lt. omega (arith, lt, length-words_seen blind s.text)) (strings root) (fit.strings_numbered root fits))
+pub are_numbered : (any_case : Bool) (root : Node) → size root < 2 ^ 64 → All IsNumbered (tokenized_strings any_case root)
+are_numbered any_case root fits =
+    All-map IsNumbered (tokenized any_case) (strings root)
+    (All-weaker fit.IsNumbered (λ s. IsNumbered (tokenized any_case s))
+    (λ s lt. omega (arith, lt, length-words_seen any_case s.text)) (strings root) (fit.strings_numbered root fits))
 
 -- what is got of what is found
-pub got_words : (blind : Bool) (root : Node) (found : Option (List WordedString)) (got : List WordedString) →
-    found ≡ Some (worded_strings blind root) → got ≡ unwrap_or found [] → got ≡ worded_strings blind root
-got_words blind root found got found_is got_is = got_is ∙ ap (λ o. unwrap_or o []) found_is
+pub got_words : (any_case : Bool) (root : Node) (found : Option (List TokenizedString)) (got : List TokenizedString) →
+    found ≡ Some (tokenized_strings any_case root) → got ≡ unwrap_or found [] → got ≡ tokenized_strings any_case root
+got_words any_case root found got found_is got_is = got_is ∙ ap (λ o. unwrap_or o []) found_is

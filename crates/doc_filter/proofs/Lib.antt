@@ -5,8 +5,8 @@ pub mod NearLemmas
 pub mod PhraseLemmas
 pub mod RunLemmas
 pub mod ScalarLemmas
-pub mod StandLemmas
+pub mod OccurLemmas
 pub mod TextLemmas
 pub mod ValueLemmas
 pub mod WindowLemmas
-pub mod WordedLemmas
+pub mod TokenizedLemmas

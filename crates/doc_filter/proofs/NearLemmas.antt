@@ -20,7 +20,7 @@ module _ (distance : ℕ) (ordered : Bool) (children : List (List ℕ)) where
       IsChoice ordered low children near.chosen
   choice_of low near from = record { one_each = near.one_each; from = from; rises = near.rises }
 
-  -- the least end lies within the distance
+  -- the least end is within the distance
   pub near_there : (low end : ℕ) → IsLeastEnd ordered low children end → end - low ≤ distance →
       true ≡ is_near distance ordered children
   near_there low end least within = sym (near_from distance ordered children (record {

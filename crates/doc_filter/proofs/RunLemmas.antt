@@ -1,4 +1,4 @@
--- Where wanted words stand one after another.
+-- Where wanted words occur one after another.
 use Rattle.std.proofs.Common.{◌≡◌, ℕ, zero, suc, ◌+◌, ◌<◌, ◌||◌, Bool, true, false, cond, List, [], ◌∷◌, drop, filter}
 use Rattle.std.proofs.Common.{length, refl, sym, ap, ◌∙◌, subst, eqb-true, arith}
 use Rattle.std.proofs.lemmas.Bool.{false≢true}
@@ -8,9 +8,9 @@ use Rattle.std.specs.Prelude.{◌==◌}
 use Rattle.std.specs.List.{list_any, range_with_len, starts_with}
 use Rattle.std.specs.Str.{bytes_eq}
 use Rattle.doc_meaning.specs.Meaning.{is_nonempty}
-use Rattle.doc_meaning.specs.Strings.{places}
+use Rattle.doc_meaning.specs.Strings.{positions}
 
--- the wanted words stand from there on
+-- the wanted words occur from there on
 abbrev pub starts_at : List (List ℕ) → List (List ℕ) → ℕ → Bool
 starts_at wanted seen j = starts_with bytes_eq (drop j seen) wanted
 
@@ -33,13 +33,13 @@ nonempty-filter p (x ∷ xs) =
     nonempty-cond (p x) x (filter p xs) ∙ ap (λ b. p x || b) (nonempty-filter p xs)
 
 pub places_are : (wanted seen : List (List ℕ)) → 0 < length wanted →
-    places wanted seen ≡ filter (starts_at wanted seen) (range_with_len 0 (length seen))
+    positions wanted seen ≡ filter (starts_at wanted seen) (range_with_len 0 (length seen))
 places_are [] seen some = absurd (omega (arith, some))
 places_are (w ∷ ws) seen some = refl
 
-pub stand_here : (wanted seen : List (List ℕ)) (j : ℕ) → 0 < length wanted → j < length seen →
-    starts_at wanted seen j ≡ true → true ≡ is_nonempty (places wanted seen)
-stand_here wanted seen j some lt starts =
+pub occur_here : (wanted seen : List (List ℕ)) (j : ℕ) → 0 < length wanted → j < length seen →
+    starts_at wanted seen j ≡ true → true ≡ is_nonempty (positions wanted seen)
+occur_here wanted seen j some lt starts =
     let all = range_with_len 0 (length seen) in
     let within : j < length all = subst (λ n. j < n) (sym (length-range_with_len 0 (length seen))) lt in
     let e : 0 + j ≡ j = omega arith in
@@ -48,6 +48,6 @@ stand_here wanted seen j some lt starts =
     ∙ list_any_at (starts_at wanted seen) all j 0 within
     (ap (starts_at wanted seen) (get_or-range_with_len 0 (length seen) j 0 lt ∙ e) ∙ starts))
 
-pub stand_nowhere : (wanted seen : List (List ℕ)) → 0 < length wanted →
-    filter (starts_at wanted seen) (range_with_len 0 (length seen)) ≡ [] → false ≡ is_nonempty (places wanted seen)
-stand_nowhere wanted seen some none = sym (ap is_nonempty (places_are wanted seen some ∙ none))
+pub occur_nowhere : (wanted seen : List (List ℕ)) → 0 < length wanted →
+    filter (starts_at wanted seen) (range_with_len 0 (length seen)) ≡ [] → false ≡ is_nonempty (positions wanted seen)
+occur_nowhere wanted seen some none = sym (ap is_nonempty (places_are wanted seen some ∙ none))

@@ -73,11 +73,11 @@ scalar_adds values g (scalar.Text t) =
 
 module _ (values : Values) (words : List (List ℕ)) where
   abbrev one_form : Bool → Values
-  one_form blind = with_phrase values (record { blind = blind; words = words })
+  one_form any_case = with_phrase values (record { any_case = any_case; words = words })
 
-  words_add : (blind : Bool) (t : List ℕ) →
-      equals_some_text (one_form blind) t
-      ≡ (equals_some_text values t || pointwise bytes_eq (words_seen blind t) words)
+  words_add : (any_case : Bool) (t : List ℕ) →
+      equals_some_text (one_form any_case) t
+      ≡ (equals_some_text values t || pointwise bytes_eq (words_seen any_case t) words)
   words_add true t =
       ap (λ b. list_any (equals_text t) values.scalars || (are_among values.plain (words_seen false t) || b))
       (any_push (λ ws. pointwise bytes_eq (words_seen true t) ws) values.folded words)
@@ -89,8 +89,8 @@ module _ (values : Values) (words : List (List ℕ)) where
       ∙ or_plain (list_any (equals_text t) values.scalars) (are_among values.plain (words_seen false t))
       (are_among values.folded (words_seen true t)) (pointwise bytes_eq (words_seen false t) words)
 
-  scalars_stay : (test : Scalar → Bool) (blind : Bool) →
-      list_any test (one_form blind).scalars ≡ (list_any test values.scalars || false)
+  scalars_stay : (test : Scalar → Bool) (any_case : Bool) →
+      list_any test (one_form any_case).scalars ≡ (list_any test values.scalars || false)
   scalars_stay test true = or_false (list_any test values.scalars)
   scalars_stay test false = or_false (list_any test values.scalars)
 
@@ -98,13 +98,13 @@ phrase_adds : (case : Case) (values : Values) (text : List ℕ) (v : Scalar) →
     passes (Equal (with_phrase values (phrase_of case text))) v
     ≡ (passes (Equal values) v || scalar_equals case false v (scalar.Text text))
 phrase_adds case values text scalar.Null =
-    scalars_stay values (phrase_of case text).words (equals scalar.Null) (phrase_of case text).blind
+    scalars_stay values (phrase_of case text).words (equals scalar.Null) (phrase_of case text).any_case
 phrase_adds case values text (scalar.Bool b) =
-    scalars_stay values (phrase_of case text).words (equals (scalar.Bool b)) (phrase_of case text).blind
+    scalars_stay values (phrase_of case text).words (equals (scalar.Bool b)) (phrase_of case text).any_case
 phrase_adds case values text (scalar.Num n) =
-    scalars_stay values (phrase_of case text).words (equals (scalar.Num n)) (phrase_of case text).blind
+    scalars_stay values (phrase_of case text).words (equals (scalar.Num n)) (phrase_of case text).any_case
 phrase_adds case values text (scalar.Text t) =
-    words_add values (phrase_of case text).words (phrase_of case text).blind t
+    words_add values (phrase_of case text).words (phrase_of case text).any_case t
 
 -- one more value is equalled too
 value_adds : (case : Case) (exact : Bool) (values : Values) (g v : Scalar) →

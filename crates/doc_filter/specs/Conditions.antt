@@ -1,4 +1,4 @@
--- What a condition says of a document, and what it is for one to stand for a query.
+-- What a condition says of a document, and when it means a query.
 use Rattle.std.specs.Prelude.{ℕ, ◌≡◌, Bool, true, false, ◌&&◌, not, List, flat_map, map, Option, None, Some}
 use Rattle.std.specs.List.{list_any, list_all}
 use Rattle.doc_model.specs.Documents.{PlainDocument}
@@ -14,11 +14,11 @@ use Rattle.doc_filter.specs.declared.condition.Condition.TheOpen.{Condition-F}
 use Rattle.doc_filter.specs.declared.condition.Condition.TheFolds.{fold-Condition}
 use Rattle.doc_filter.specs.declared.phrase.Phrase.{Phrase}
 use Rattle.doc_filter.specs.Scalars.{passes, some_named}
-use Rattle.doc_filter.specs.Worded.{phrase_starts, worded_strings}
+use Rattle.doc_filter.specs.Tokenized.{phrase_starts, tokenized_strings}
 
 -- where a phrase starts in the strings of these properties, or in all, as numbers of words
 abbrev pub starts_of : Node → Option (List (List ℕ)) → Phrase → List ℕ
-starts_of root names phrase = phrase_starts (worded_strings phrase.blind root) phrase.words names
+starts_of root names phrase = phrase_starts (tokenized_strings phrase.any_case root) phrase.words names
 
 -- where some of the phrases start
 abbrev pub starts_of_some : Node → Option (List (List ℕ)) → List Phrase → List ℕ
@@ -52,10 +52,10 @@ abbrev pub is_met : Condition → PlainDocument → Bool
 is_met condition d = (condition_meaning d condition).holds
 
 -- it says of each document what the query says
-abbrev pub StandsFor : Condition → Query → Type 0
-StandsFor condition query = (d : PlainDocument) → condition_meaning d condition ≡ meaning d query
+abbrev pub MeansQuery : Condition → Query → Type 0
+MeansQuery condition query = (d : PlainDocument) → condition_meaning d condition ≡ meaning d query
 
 -- each of them does
-abbrev pub StandForAll : List Condition → List Query → Type 0
-StandForAll conditions queries =
+abbrev pub MeanQueries : List Condition → List Query → Type 0
+MeanQueries conditions queries =
     (d : PlainDocument) → map (condition_meaning d) conditions ≡ map (meaning d) queries

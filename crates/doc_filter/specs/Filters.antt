@@ -2,7 +2,7 @@
 use Rattle.std.specs.Prelude.{◌≡◌, Bool}
 use Rattle.doc_model.specs.Documents.{PlainDocument}
 use Rattle.doc_model.specs.declared.query.Query.{Query}
-use Rattle.doc_meaning.specs.Meaning.{sat}
+use Rattle.doc_meaning.specs.Meaning.{satisfies}
 use Rattle.doc_filter.specs.declared.filter.Filter.{Filter}
 use Rattle.doc_filter.specs.Conditions.{is_met}
 
@@ -12,4 +12,4 @@ lets_through filter d = is_met filter.condition d
 
 -- it lets through exactly the documents that satisfy the query
 abbrev pub FiltersBy : Filter → Query → Type 0
-FiltersBy filter query = (d : PlainDocument) → lets_through filter d ≡ sat query d
+FiltersBy filter query = (d : PlainDocument) → lets_through filter d ≡ satisfies query d

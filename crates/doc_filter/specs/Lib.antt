@@ -4,4 +4,4 @@ pub mod Found
 pub mod Phrases
 pub mod Scalars
 pub mod Windows
-pub mod Worded
+pub mod Tokenized

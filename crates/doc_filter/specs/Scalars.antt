@@ -8,7 +8,7 @@ use Rattle.doc_model.specs.declared.query.Case.TheVariants as case
 use Rattle.doc_model.specs.declared.query.Compare.{Compare}
 use Rattle.doc_model.specs.declared.scalar.Scalar.{Scalar}
 use Rattle.doc_model.specs.declared.scalar.Scalar.TheVariants as scalar
-use Rattle.doc_meaning.specs.Strings.{Owner, is_owned, words_seen}
+use Rattle.doc_meaning.specs.Strings.{Property, is_named, words_seen}
 use Rattle.doc_meaning.specs.Values.{scalar_equals, in_range}
 use Rattle.doc_filter.specs.declared.phrase.Phrase.{Phrase}
 use Rattle.doc_filter.specs.declared.scalar_test.ScalarTest.{ScalarTest}
@@ -56,8 +56,8 @@ passes test (scalar.Num n) = passes_plainly test (scalar.Num n)
 passes test (scalar.Text text) = passes_text test text
 
 -- some scalar of the named properties passes
-abbrev pub some_named : List (List ℕ) → (Scalar → Bool) → List (Owner × Scalar) → Bool
-some_named names test found = list_any (λ s. is_owned (Some names) s.0 && test s.1) found
+abbrev pub some_named : List (List ℕ) → (Scalar → Bool) → List (Property × Scalar) → Bool
+some_named names test found = list_any (λ s. is_named (Some names) s.0 && test s.1) found
 
 -- one more value that is compared by type and value
 abbrev pub with_scalar : Values → Scalar → Values
@@ -67,7 +67,7 @@ with_scalar values value =
 -- one more text that is compared by its words
 abbrev pub with_phrase : Values → Phrase → Values
 with_phrase values phrase =
-    if phrase.blind
+    if phrase.any_case
     then record { scalars = values.scalars; plain = values.plain; folded = values.folded ++ phrase.words ∷ [] }
     else record { scalars = values.scalars; plain = values.plain ++ phrase.words ∷ []; folded = values.folded }
 

@@ -1,7 +1,7 @@
 ghost use Rattle.std.specs.Prelude.{◌≡◌};
 ghost use Rattle.doc_meaning.specs.Meaning.{have_common};
 
-use crate::owners::is_among;
+use crate::properties::is_among;
 use doc_model::Texts;
 
 /// Whether some name is one of the names.

@@ -15,11 +15,11 @@ pub enum Condition {
         positive: Boxed<Condition>,
         negative: Boxed<Condition>,
     },
-    /// Some phrase stands in a text value.
+    /// Some phrase occurs in a text value.
     Word {
         phrases: Items<Phrase>,
     },
-    /// Some phrase stands in a text value of one of the named properties.
+    /// Some phrase occurs in a text value of one of the named properties.
     PropWord {
         names: Texts,
         phrases: Items<Phrase>,

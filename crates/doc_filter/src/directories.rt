@@ -4,7 +4,7 @@ ghost use Rattle.doc_meaning.specs.Meaning.{in_directory, is_inside};
 
 use doc_model::Text;
 
-/// Whether a URI lies in one of the directories.
+/// Whether a URI is in one of the directories.
 pub fn is_in_some_directory(infinite: bool, uri: &str, directories: &[Text]) -> bool
     ensures { result ≡ list_any (in_directory infinite uri.now) directories.now }
 {

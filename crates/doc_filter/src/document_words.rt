@@ -1,11 +1,11 @@
 ghost use Rattle.std.specs.Prelude.{◌≡◌, ◌<◌, ◌^◌, [], IfSome, OnOk, Some, not, true, unwrap_or};
 ghost use Rattle.doc_filter.specs.Found.{AreFound, AreOf, found_words};
-ghost use Rattle.doc_filter.specs.Worded.{worded_strings};
+ghost use Rattle.doc_filter.specs.Tokenized.{tokenized_strings};
 ghost use Rattle.doc_model.specs.Tree.{size};
 ghost use Rattle.doc_model.specs.declared.node.Node.{Node};
 
-use crate::worded_string::WordedString;
-use crate::worded_strings::worded_strings;
+use crate::tokenized_string::TokenizedString;
+use crate::tokenized_strings::tokenized_strings;
 use doc_model::{Document, Node};
 use sqlite_items::Items;
 use std::alloc::{AllocError, Global};
@@ -14,9 +14,9 @@ use std::alloc::{AllocError, Global};
 #[derive(Debug, Drop)]
 pub struct DocumentWords {
     /// By the words as they are written.
-    pub plain: Option<Items<WordedString>>,
+    pub plain: Option<Items<TokenizedString>>,
     /// By the case folded words.
-    pub folded: Option<Items<WordedString>>,
+    pub folded: Option<Items<TokenizedString>>,
     /// Whether a text was sought before.
     pub sought: bool,
 }
@@ -49,14 +49,14 @@ impl DocumentWords {
     pub fn find(
         &mut self,
         alloc: Global,
-        blind: bool,
+        any_case: bool,
         document: &Document,
     ) -> Result<(), AllocError>
         requires { AreOf self.old document.now.root }
-        ensures { OnOk result (AreFound blind self.new document.now.root) }
+        ensures { OnOk result (AreFound any_case self.new document.now.root) }
     {
         let root = document.root();
-        if blind {
+        if any_case {
             find_once(alloc, true, root, &mut self.folded)
         } else {
             find_once(alloc, false, root, &mut self.plain)
@@ -64,10 +64,10 @@ impl DocumentWords {
     }
 
     /// The text values by the words in this form, none before they are found.
-    pub fn get(&self, blind: bool) -> &[WordedString]
-        ensures { result.now ≡ unwrap_or (found_words blind self.now) [] }
+    pub fn get(&self, any_case: bool) -> &[TokenizedString]
+        ensures { result.now ≡ unwrap_or (found_words any_case self.now) [] }
     {
-        let found = if blind { &self.folded } else { &self.plain };
+        let found = if any_case { &self.folded } else { &self.plain };
         match found {
             Some(strings) => strings.as_slice(),
             None => &[],
@@ -77,16 +77,16 @@ impl DocumentWords {
 
 fn find_once(
     alloc: Global,
-    blind: bool,
+    any_case: bool,
     root: &Node,
-    found: &mut Option<Items<WordedString>>,
+    found: &mut Option<Items<TokenizedString>>,
 ) -> Result<(), AllocError>
     requires fits { size root.now < 2 ^ 64 }
-    requires right { IfSome found.old (λ strings. strings ≡ worded_strings blind root.now) }
-    ensures { OnOk result (found.new ≡ Some (worded_strings blind root.now)) }
+    requires right { IfSome found.old (λ strings. strings ≡ tokenized_strings any_case root.now) }
+    ensures { OnOk result (found.new ≡ Some (tokenized_strings any_case root.now)) }
 {
     if found.is_none() {
-        *found = Some(worded_strings(alloc, blind, root)?);
+        *found = Some(tokenized_strings(alloc, any_case, root)?);
     }
     Ok(())
 }

@@ -7,10 +7,10 @@ use crate::collections::have_common;
 use crate::condition::{Condition, Conditions};
 use crate::directories::is_in_some_directory;
 use crate::document_words::DocumentWords;
-use crate::owners::is_among;
+use crate::properties::is_among;
 use crate::scalar_walk::has_scalar;
 use crate::starting::near_holds;
-use crate::text_queries::some_phrase_stands;
+use crate::text_queries::some_phrase_occurs;
 use doc_model::Document;
 use std::alloc::{AllocError, Global};
 
@@ -37,11 +37,11 @@ pub fn holds(
             Ok(positive && !holds(alloc, negative.get(), document, words)?)
         }
         Condition::Word { phrases } => {
-            some_phrase_stands(alloc, phrases.as_slice(), None, document, words)
+            some_phrase_occurs(alloc, phrases.as_slice(), None, document, words)
         }
         Condition::PropWord { names, phrases } => {
             let names = Some(names.as_slice());
-            some_phrase_stands(alloc, phrases.as_slice(), names, document, words)
+            some_phrase_occurs(alloc, phrases.as_slice(), names, document, words)
         }
         Condition::Scalars { names, test } => {
             has_scalar(alloc, document.root(), names.as_slice(), test)

@@ -1,5 +1,5 @@
 ghost use Rattle.std.specs.Prelude.{◌≡◌, IfOk};
-ghost use Rattle.doc_meaning.specs.Meaning.{sat};
+ghost use Rattle.doc_meaning.specs.Meaning.{satisfies};
 
 use crate::Filter;
 use doc_model::{Document, Query};
@@ -7,7 +7,7 @@ use std::alloc::{AllocError, Global};
 
 /// Whether a document satisfies a query, by a filter made for this document alone.
 pub fn matches(alloc: Global, query: &Query, document: &Document) -> Result<bool, AllocError>
-    ensures { IfOk result (λ b. b ≡ sat query.now document.now) }
+    ensures { IfOk result (λ b. b ≡ satisfies query.now document.now) }
 {
     Filter::new(alloc, query)?.matches(alloc, document)
 }

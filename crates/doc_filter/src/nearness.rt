@@ -8,7 +8,7 @@ use sqlite_items::Items;
 use std::alloc::{AllocError, Global};
 
 /// Whether one start of each child can be chosen so that no two are further apart than the distance, and they
-/// rise where that is asked. The starts of a child stand in any order.
+/// rise where that is asked. The starts of a child are in any order.
 ///
 /// It sorts them. Then it goes through them by leaps, each but the last past a start and in the time of a binary search
 /// for each child.

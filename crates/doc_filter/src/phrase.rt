@@ -2,7 +2,7 @@ ghost use Rattle.std.specs.Prelude.{◌≡◌, IfOk, map};
 ghost use Rattle.doc_filter.specs.Phrases.{phrase_of};
 
 use doc_model::{Case, Text, Texts};
-use doc_tokens::{is_blind, words_seen};
+use doc_tokens::{ignores_case, words_seen};
 use sqlite_items::Items;
 use std::alloc::{AllocError, Global};
 
@@ -10,7 +10,7 @@ use std::alloc::{AllocError, Global};
 #[derive(Debug, Drop)]
 pub struct Phrase {
     /// Whether upper and lower case are alike to it.
-    pub blind: bool,
+    pub any_case: bool,
     /// Its words in the form in which they are compared.
     pub words: Texts,
 }
@@ -20,9 +20,9 @@ impl Phrase {
     pub fn new(alloc: Global, text: &str, case: Case) -> Result<Phrase, AllocError>
         ensures { IfOk result (λ phrase. phrase ≡ phrase_of case text.now) }
     {
-        let blind = is_blind(case, text);
-        let words = words_seen(alloc, blind, text)?;
-        Ok(Phrase { blind, words })
+        let any_case = ignores_case(case, text);
+        let words = words_seen(alloc, any_case, text)?;
+        Ok(Phrase { any_case, words })
     }
 }
 

@@ -1,5 +1,5 @@
 ghost use Rattle.std.specs.Prelude.{◌≡◌, IfOk};
-ghost use Rattle.doc_filter.specs.Conditions.{StandForAll, StandsFor};
+ghost use Rattle.doc_filter.specs.Conditions.{MeanQueries, MeansQuery};
 
 use crate::condition::{Condition, Conditions};
 use crate::phrase::phrases_of;
@@ -12,7 +12,7 @@ use std::alloc::{AllocError, Global};
 /// The condition that a query states. Everything in it is copied, and its texts are cut and folded.
 #[cycle(prepare)]
 pub fn prepare(alloc: Global, query: &Query) -> Result<Condition, AllocError>
-    ensures { IfOk result (λ condition. StandsFor condition query.now) }
+    ensures { IfOk result (λ condition. MeansQuery condition query.now) }
 {
     match query {
         Query::True => Ok(Condition::True),
@@ -71,7 +71,7 @@ pub fn prepare(alloc: Global, query: &Query) -> Result<Condition, AllocError>
 
 #[cycle(prepare)]
 fn prepare_all(alloc: Global, queries: &Queries) -> Result<Conditions, AllocError>
-    ensures { IfOk result (λ conditions. StandForAll conditions queries.now) }
+    ensures { IfOk result (λ conditions. MeanQueries conditions queries.now) }
 {
     let mut out = Items::new(alloc);
     for query in queries.as_slice() {

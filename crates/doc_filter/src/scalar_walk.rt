@@ -2,9 +2,9 @@ ghost use Rattle.std.specs.Prelude.{◌≡◌, ◌&&◌, IfOk, Some};
 ghost use Rattle.std.specs.List.{list_any};
 ghost use Rattle.std.specs.Option.{option_copied};
 ghost use Rattle.doc_filter.specs.Scalars.{passes, passes_text, some_named};
-ghost use Rattle.doc_meaning.specs.Strings.{is_owned, scalars, scalars_under};
+ghost use Rattle.doc_meaning.specs.Strings.{is_named, scalars, scalars_under};
 
-use crate::owners::is_owned;
+use crate::properties::is_named;
 use crate::scalar_test::ScalarTest;
 use doc_model::{Members, Node, Nodes, Scalar, Text};
 use std::alloc::{AllocError, Global};
@@ -29,19 +29,19 @@ pub fn has_scalar(
 fn some_passes(
     alloc: Global,
     node: &Node,
-    owner: Option<&Text>,
+    property: Option<&Text>,
     names: &[Text],
     test: &ScalarTest,
 ) -> Result<bool, AllocError>
-    ensures { let found = scalars_under node.now (option_copied owner.entry) in
+    ensures { let found = scalars_under node.now (option_copied property.entry) in
         IfOk result (λ b. b ≡ some_named names.now (passes test.now) found) }
 {
     match node {
-        Node::Null => Ok(is_owned(Some(names), owner) && test.passes(&Scalar::Null)),
-        Node::Bool(b) => Ok(is_owned(Some(names), owner) && test.passes(&Scalar::Bool(*b))),
-        Node::Num(n) => Ok(is_owned(Some(names), owner) && test.passes(&Scalar::Num(*n))),
-        Node::Text(text) => owned_text_passes(alloc, text, owner, names, test),
-        Node::Items(items) => some_item_passes(alloc, items, owner, names, test),
+        Node::Null => Ok(is_named(Some(names), property) && test.passes(&Scalar::Null)),
+        Node::Bool(b) => Ok(is_named(Some(names), property) && test.passes(&Scalar::Bool(*b))),
+        Node::Num(n) => Ok(is_named(Some(names), property) && test.passes(&Scalar::Num(*n))),
+        Node::Text(text) => owned_text_passes(alloc, text, property, names, test),
+        Node::Items(items) => some_item_passes(alloc, items, property, names, test),
         Node::Members(members) => some_member_passes(alloc, members, names, test),
     }
 }
@@ -49,14 +49,14 @@ fn some_passes(
 fn owned_text_passes(
     alloc: Global,
     text: &Text,
-    owner: Option<&Text>,
+    property: Option<&Text>,
     names: &[Text],
     test: &ScalarTest,
 ) -> Result<bool, AllocError>
-    ensures { let owned = is_owned (Some names.now) (option_copied owner.entry) in
+    ensures { let owned = is_named (Some names.now) (option_copied property.entry) in
         IfOk result (λ b. b ≡ (owned && passes_text test.now text.now)) }
 {
-    if !is_owned(Some(names), owner) {
+    if !is_named(Some(names), property) {
         return Ok(false);
     }
     test.passes_text(alloc, text)
@@ -66,16 +66,16 @@ fn owned_text_passes(
 fn some_item_passes(
     alloc: Global,
     items: &Nodes,
-    owner: Option<&Text>,
+    property: Option<&Text>,
     names: &[Text],
     test: &ScalarTest,
 ) -> Result<bool, AllocError>
     ensures { let has = some_named names.now (passes test.now) in
-        let found = list_any (λ item. has (scalars_under item (option_copied owner.entry))) items.now in
+        let found = list_any (λ item. has (scalars_under item (option_copied property.entry))) items.now in
         IfOk result (λ b. b ≡ found) }
 {
     for item in items.as_slice() {
-        if some_passes(alloc, item, owner, names, test)? {
+        if some_passes(alloc, item, property, names, test)? {
             return Ok(true);
         }
     }

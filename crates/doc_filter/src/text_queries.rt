@@ -12,8 +12,8 @@ use doc_model::{Document, Text};
 use sqlite_items::Items;
 use std::alloc::{AllocError, Global};
 
-/// Whether some of the phrases stands in a string of the named properties, or in any.
-pub fn some_phrase_stands(
+/// Whether one of the phrases occurs in a string of the named properties, or in any.
+pub fn some_phrase_occurs(
     alloc: Global,
     phrases: &[Phrase],
     names: Option<&[Text]>,
@@ -26,7 +26,7 @@ pub fn some_phrase_stands(
     ensures kept { OnOk result (AreOf words.new document.now.root) }
 {
     for phrase in phrases {
-        if phrase_stands(alloc, phrase, names, document, words)? {
+        if phrase_occurs(alloc, phrase, names, document, words)? {
             return Ok(true);
         }
     }
@@ -35,7 +35,7 @@ pub fn some_phrase_stands(
 
 /// Whether one of them does. The first is sought in the tree itself, so that a query of one text finds no words that it
 /// doesn't look at. From the second on the words of the document are found, and serve all others.
-fn phrase_stands(
+fn phrase_occurs(
     alloc: Global,
     phrase: &Phrase,
     names: Option<&[Text]>,
@@ -52,10 +52,10 @@ fn phrase_stands(
         return Ok(false);
     }
     if words.begins() {
-        return some_text_has(alloc, document.root(), phrase.blind, wanted, names);
+        return some_text_has(alloc, document.root(), phrase.any_case, wanted, names);
     }
-    words.find(alloc, phrase.blind, document)?;
-    Ok(has_phrase(words.get(phrase.blind), wanted, names))
+    words.find(alloc, phrase.any_case, document)?;
+    Ok(has_phrase(words.get(phrase.any_case), wanted, names))
 }
 
 /// Adds where the phrases start in the strings of the named properties, or in all, as numbers of words.
@@ -95,6 +95,6 @@ fn add_starts_of(
     if wanted.is_empty() {
         return Ok(());
     }
-    words.find(alloc, phrase.blind, document)?;
-    add_phrase_starts(words.get(phrase.blind), wanted, names, out)
+    words.find(alloc, phrase.any_case, document)?;
+    add_phrase_starts(words.get(phrase.any_case), wanted, names, out)
 }

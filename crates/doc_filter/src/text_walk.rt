@@ -1,68 +1,68 @@
 ghost use Rattle.std.specs.Prelude.{◌≡◌, ◌&&◌, IfOk, None, Some};
 ghost use Rattle.std.specs.List.{list_any};
 ghost use Rattle.std.specs.Option.{option_copied};
-ghost use Rattle.doc_filter.specs.Worded.{some_text_has, texts_under};
+ghost use Rattle.doc_filter.specs.Tokenized.{some_text_has, texts_under};
 ghost use Rattle.doc_meaning.specs.Meaning.{is_nonempty};
-ghost use Rattle.doc_meaning.specs.Strings.{is_owned, places, words_seen};
+ghost use Rattle.doc_meaning.specs.Strings.{is_named, positions, words_seen};
 
-use crate::owners::is_owned;
-use crate::word_runs::stand_in;
+use crate::properties::is_named;
+use crate::word_runs::occur_in;
 use doc_model::{Members, Node, Nodes, Text};
 use doc_tokens::words_seen;
 use std::alloc::{AllocError, Global};
 
-/// Whether the words stand one after another in a text of these properties, or in any.
+/// Whether the words occur one after another in a text of these properties, or in any.
 ///
 /// It stops at the first text that has them, and lets go of the words of each before it looks at the next.
 pub fn some_text_has(
     alloc: Global,
     root: &Node,
-    blind: bool,
+    any_case: bool,
     wanted: &[Text],
     names: Option<&[Text]>,
 ) -> Result<bool, AllocError>
     ensures { let texts = texts_under root.now None in
-        IfOk result (λ b. b ≡ some_text_has blind wanted.now (option_copied names.entry) texts) }
+        IfOk result (λ b. b ≡ some_text_has any_case wanted.now (option_copied names.entry) texts) }
 {
-    stands_under(alloc, root, None, blind, wanted, names)
+    occurs_under(alloc, root, None, any_case, wanted, names)
 }
 
 /// The same of a node that has this owner.
 #[cycle(texts)]
-fn stands_under(
+fn occurs_under(
     alloc: Global,
     node: &Node,
-    owner: Option<&Text>,
-    blind: bool,
+    property: Option<&Text>,
+    any_case: bool,
     wanted: &[Text],
     names: Option<&[Text]>,
 ) -> Result<bool, AllocError>
-    ensures { let texts = texts_under node.now (option_copied owner.entry) in
-        IfOk result (λ b. b ≡ some_text_has blind wanted.now (option_copied names.entry) texts) }
+    ensures { let texts = texts_under node.now (option_copied property.entry) in
+        IfOk result (λ b. b ≡ some_text_has any_case wanted.now (option_copied names.entry) texts) }
 {
     match node {
-        Node::Text(text) => stands_in(alloc, text.as_str(), owner, blind, wanted, names),
-        Node::Items(items) => stands_in_items(alloc, items, owner, blind, wanted, names),
-        Node::Members(members) => stands_in_members(alloc, members, blind, wanted, names),
+        Node::Text(text) => occurs_in(alloc, text.as_str(), property, any_case, wanted, names),
+        Node::Items(items) => occurs_in_items(alloc, items, property, any_case, wanted, names),
+        Node::Members(members) => occurs_in_members(alloc, members, any_case, wanted, names),
         _ => Ok(false),
     }
 }
 
 #[cycle(texts)]
-fn stands_in_items(
+fn occurs_in_items(
     alloc: Global,
     items: &Nodes,
-    owner: Option<&Text>,
-    blind: bool,
+    property: Option<&Text>,
+    any_case: bool,
     wanted: &[Text],
     names: Option<&[Text]>,
 ) -> Result<bool, AllocError>
-    ensures { let has = some_text_has blind wanted.now (option_copied names.entry) in
-        let stands = list_any (λ item. has (texts_under item (option_copied owner.entry))) items.now in
-        IfOk result (λ b. b ≡ stands) }
+    ensures { let has = some_text_has any_case wanted.now (option_copied names.entry) in
+        let occurs = list_any (λ item. has (texts_under item (option_copied property.entry))) items.now in
+        IfOk result (λ b. b ≡ occurs) }
 {
     for item in items.as_slice() {
-        if stands_under(alloc, item, owner, blind, wanted, names)? {
+        if occurs_under(alloc, item, property, any_case, wanted, names)? {
             return Ok(true);
         }
     }
@@ -70,19 +70,19 @@ fn stands_in_items(
 }
 
 #[cycle(texts)]
-fn stands_in_members(
+fn occurs_in_members(
     alloc: Global,
     members: &Members,
-    blind: bool,
+    any_case: bool,
     wanted: &[Text],
     names: Option<&[Text]>,
 ) -> Result<bool, AllocError>
-    ensures { let has = some_text_has blind wanted.now (option_copied names.entry) in
-        let stands = list_any (λ member. has (texts_under member.1 (Some member.0))) members.now in
-        IfOk result (λ b. b ≡ stands) }
+    ensures { let has = some_text_has any_case wanted.now (option_copied names.entry) in
+        let occurs = list_any (λ member. has (texts_under member.1 (Some member.0))) members.now in
+        IfOk result (λ b. b ≡ occurs) }
 {
     for member in members.as_slice() {
-        if stands_under(alloc, &member.1, Some(&member.0), blind, wanted, names)? {
+        if occurs_under(alloc, &member.1, Some(&member.0), any_case, wanted, names)? {
             return Ok(true);
         }
     }
@@ -90,20 +90,20 @@ fn stands_in_members(
 }
 
 /// The same of one text.
-fn stands_in(
+fn occurs_in(
     alloc: Global,
     text: &str,
-    owner: Option<&Text>,
-    blind: bool,
+    property: Option<&Text>,
+    any_case: bool,
     wanted: &[Text],
     names: Option<&[Text]>,
 ) -> Result<bool, AllocError>
-    ensures { let owned = is_owned (option_copied names.entry) (option_copied owner.entry) in
-        IfOk result (λ b. b ≡ (owned && is_nonempty (places wanted.now (words_seen blind text.now)))) }
+    ensures { let owned = is_named (option_copied names.entry) (option_copied property.entry) in
+        IfOk result (λ b. b ≡ (owned && is_nonempty (positions wanted.now (words_seen any_case text.now)))) }
 {
-    if !is_owned(names, owner) {
+    if !is_named(names, property) {
         return Ok(false);
     }
-    let seen = words_seen(alloc, blind, text)?;
-    Ok(stand_in(wanted, seen.as_slice()))
+    let seen = words_seen(alloc, any_case, text)?;
+    Ok(occur_in(wanted, seen.as_slice()))
 }

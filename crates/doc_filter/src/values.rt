@@ -69,7 +69,7 @@ impl Values {
     fn add_phrase(&mut self, phrase: Phrase) -> Result<(), AllocError>
         ensures { OnOk result (self.new ≡ with_phrase self.old phrase) }
     {
-        if phrase.blind {
+        if phrase.any_case {
             self.folded.push(phrase.words)
         } else {
             self.plain.push(phrase.words)
@@ -91,13 +91,18 @@ impl Values {
 }
 
 /// Whether a text has the words of some list, and no others.
-fn has_words(alloc: Global, blind: bool, text: &str, wanted: &[Texts]) -> Result<bool, AllocError>
-    ensures { IfOk result (λ b. b ≡ are_among wanted.now (words_seen blind text.now)) }
+fn has_words(
+    alloc: Global,
+    any_case: bool,
+    text: &str,
+    wanted: &[Texts],
+) -> Result<bool, AllocError>
+    ensures { IfOk result (λ b. b ≡ are_among wanted.now (words_seen any_case text.now)) }
 {
     if wanted.is_empty() {
         return Ok(false);
     }
-    let seen = words_seen(alloc, blind, text)?;
+    let seen = words_seen(alloc, any_case, text)?;
     Ok(are_among(wanted, seen.as_slice()))
 }
 

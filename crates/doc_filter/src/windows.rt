@@ -36,7 +36,7 @@ fn least_end(children: &[Items<u64>], from: Bound, ordered: bool) -> Option<u64>
 /// Whether one number of each sorted list can be chosen so that no two are further apart than the distance, and they
 /// rise where that is asked.
 ///
-/// It leaps: from a number on, the least end of a choice lies within the distance, or no choice that will do has a
+/// It leaps: from a number on, the least end of a choice is within the distance, or no choice that will do has a
 /// number further below that end than the distance.
 pub fn is_near_sorted(children: &[Items<u64>], distance: u32, ordered: bool) -> bool
     requires { All IsNonDecreasing children.now }

@@ -1,12 +1,10 @@
--- Each query that keeps its rules lies between its two tests.
-use Rattle.std.proofs.Common.{◌≡◌, ℕ, ◌+◌, ◌≤◌, ◌&&◌, not, cond, ltb, Bool, true, false, List, [], ◌∷◌, map, All, Contains, Option, None, Some, refl, sym, subst, ap, ◌∙◌, arith, ⊎_elim}
+-- The meaning of each query that keeps its rules is between its two tests.
+use Rattle.std.proofs.Common.{◌≡◌, ℕ, ◌+◌, ◌≤◌, not, cond, ltb, Bool, true, false, List, [], ◌∷◌, map, All, Contains, Option, None, Some, refl, sym, subst, ap, ◌∙◌, arith, ⊎_elim}
 use Rattle.std.proofs.lemmas.Bool.{and_from, and_parts, or_cases, or_left, or_right}
 use Rattle.std.proofs.lemmas.List.Elements.{All-cons, All-nil}
 use Rattle.std.specs.List.{list_all, list_any}
 use Rattle.doc_model.specs.Documents.{PlainDocument}
-use Rattle.doc_model.specs.Queries.{Index, broken_query_rule, directories_end, missing_index, near_fit, near_step, no_range, query_count, query_depth}
-use Rattle.doc_model.specs.declared.checks.near.NearFit.{NearFit}
-use Rattle.doc_model.specs.declared.query.Case.{Case}
+use Rattle.doc_model.specs.Queries.{Index, broken_query_rule, directories_end, missing_index, fits, fits_step, near_children_fit, no_range, query_count, query_depth}
 use Rattle.doc_model.specs.declared.query.Query.{Query, map-Query}
 use Rattle.doc_model.specs.declared.query.Query.TheFolds.{fold-roll-Query, ind-Query}
 use Rattle.doc_model.specs.declared.query.Query.TheOpen.{Query-F}
@@ -15,74 +13,26 @@ use Rattle.doc_model.specs.declared.refusal.QueryBad.{QueryBad}
 use Rattle.doc_model.specs.declared.refusal.QueryBad.TheVariants as rule
 use Rattle.doc_meaning.specs.declared.bounds.Bounds.{Bounds}
 use Rattle.doc_meaning.specs.declared.meaning.Meaning.{Meaning}
-use Rattle.doc_meaning.specs.declared.string_node.StringNode.{StringNode}
-use Rattle.doc_meaning.specs.Estimates.{any_bound, bounds, bounds_step, exactly, near_bounds, prop_text_bounds, text_bounds}
+use Rattle.doc_meaning.specs.Estimates.{bounds, bounds_step, exactly, near_bounds}
 use Rattle.doc_meaning.specs.Laws.{SatisfiesMaybe, SureSatisfies}
-use Rattle.doc_meaning.specs.Meaning.{is_nonempty, meaning, meaning_step, plainly, word_starts}
+use Rattle.doc_meaning.specs.Meaning.{is_nonempty, meaning, meaning_step, plainly}
 use Rattle.doc_meaning.specs.Near.{ChoosesOne, is_near}
-use Rattle.doc_meaning.specs.Strings.{is_blind, strings, words_seen}
-use Rattle.doc_meaning.proofs.AnyLemmas.{any-map, any_swapped, any_weaker}
+use Rattle.doc_meaning.specs.Strings.{strings}
 use Rattle.doc_meaning.proofs.NearLemmas.{near_from, near_of}
-use Rattle.doc_meaning.proofs.StandLemmas.{nonempty-flat_map, owned, prop_words_maybe, prop_words_sure, some_of_stand, stand_of_some, texts_stand, word_starts_stand, words_maybe, words_sure}
-use Rattle.doc_meaning.specs.Estimates.{stand}
+use Rattle.doc_meaning.proofs.PhraseStartLemmas.{nonempty-flat_map}
+use Rattle.doc_meaning.proofs.WordBoundsLemmas.{prop_maybe, prop_sure, word_maybe, word_sure}
 
--- what a query means lies between its bounds where it keeps the rule of near; it holds where it starts, and starts where it holds if it may be near
-record Agrees (fit : NearFit) (m : Meaning) (b : Bounds) : Type 0 where
+-- a query that keeps the rule of near means what is between its bounds; it holds where it starts, and a near child starts
+-- where it holds
+record Agrees (fit : Bool → Bool) (m : Meaning) (b : Bounds) : Type 0 where
   starts : is_nonempty m.starts ≡ true → m.holds ≡ true
-  near : fit.may_be_near ≡ true → m.holds ≡ true → is_nonempty m.starts ≡ true
-  sure : fit.fits ≡ true → b.sure ≡ true → m.holds ≡ true
-  maybe : fit.fits ≡ true → m.holds ≡ true → b.maybe ≡ true
+  inner : fit true ≡ true → fit false ≡ true
+  near : fit true ≡ true → m.holds ≡ true → is_nonempty m.starts ≡ true
+  sure : fit false ≡ true → b.sure ≡ true → m.holds ≡ true
+  maybe : fit false ≡ true → m.holds ≡ true → b.maybe ≡ true
 
-module _ (found : List StringNode) (case : Case) where
-  pub word_sure : (texts : List (List ℕ)) → (any_bound (map (text_bounds found case) texts)).sure ≡ true →
-      is_nonempty (word_starts found texts case None) ≡ true
-  word_sure texts is =
-      texts_stand found case texts
-      ∙ any_weaker _ _ (λ text. words_sure found (is_blind case text) (words_seen (is_blind case text) text)) texts
-      (sym (any-map (λ b. b.sure) (text_bounds found case) texts) ∙ is)
-
-  pub word_maybe : (texts : List (List ℕ)) → is_nonempty (word_starts found texts case None) ≡ true →
-      (any_bound (map (text_bounds found case) texts)).maybe ≡ true
-  word_maybe texts is =
-      any-map (λ b. b.maybe) (text_bounds found case) texts
-      ∙ any_weaker _ _ (λ text. words_maybe found (is_blind case text) (words_seen (is_blind case text) text)) texts
-      (sym (texts_stand found case texts) ∙ is)
-
-  -- the words of a text stand in a property
-  abbrev stands_under : List (List ℕ) → List ℕ → Bool
-  stands_under names text = stand (owned found (Some names)) (is_blind case text) (words_seen (is_blind case text) text)
-
-  abbrev name_bounds : List (List ℕ) → List ℕ → Bounds
-  name_bounds texts name = any_bound (map (λ text. prop_text_bounds found case text name) texts)
-
-  name_sure : (texts : List (List ℕ)) (name : List ℕ) → (name_bounds texts name).sure ≡ true → list_any (stands_under (name ∷ [])) texts ≡ true
-  name_sure texts name is =
-      any_weaker _ _ (λ text. prop_words_sure found name (is_blind case text) (words_seen (is_blind case text) text))
-      texts (sym (any-map (λ b. b.sure) (λ text. prop_text_bounds found case text name) texts) ∙ is)
-
-  name_maybe : (texts : List (List ℕ)) (name : List ℕ) → list_any (stands_under (name ∷ [])) texts ≡ true → (name_bounds texts name).maybe ≡ true
-  name_maybe texts name is =
-      any-map (λ b. b.maybe) (λ text. prop_text_bounds found case text name) texts
-      ∙ any_weaker _ _ (λ text. prop_words_maybe found name (is_blind case text) (words_seen (is_blind case text) text)) texts is
-
-  pub prop_sure : (names texts : List (List ℕ)) → (any_bound (map (name_bounds texts) names)).sure ≡ true →
-      is_nonempty (word_starts found texts case (Some names)) ≡ true
-  prop_sure names texts is =
-      word_starts_stand found case (Some names) texts
-      ∙ any_weaker _ _ (λ text. some_of_stand found names (is_blind case text) (words_seen (is_blind case text) text)) texts
-      (any_swapped (λ (name : List ℕ) (text : List ℕ). stands_under (name ∷ []) text) names texts
-      (any_weaker _ _ (name_sure texts) names (sym (any-map (λ b. b.sure) (name_bounds texts) names) ∙ is)))
-
-  pub prop_maybe : (names texts : List (List ℕ)) → is_nonempty (word_starts found texts case (Some names)) ≡ true →
-      (any_bound (map (name_bounds texts) names)).maybe ≡ true
-  prop_maybe names texts is =
-      any-map (λ b. b.maybe) (name_bounds texts) names ∙ any_weaker _ _ (name_maybe texts) names
-      (any_swapped (λ (text : List ℕ) (name : List ℕ). stands_under (name ∷ []) text) texts names
-      (any_weaker _ _ (λ text. stand_of_some found names (is_blind case text) (words_seen (is_blind case text) text))
-      texts (sym (word_starts_stand found case (Some names) texts) ∙ is)))
-
-leaf : (b : Bool) (fit : NearFit) → fit.may_be_near ≡ false → Agrees fit (plainly b) (exactly b)
-leaf b fit far = record { starts = λ is. cc; near = λ is holds. cc; sure = λ f is. is; maybe = λ f is. is }
+leaf : (b : Bool) (fit : Bool → Bool) → fit true ≡ false → Agrees fit (plainly b) (exactly b)
+leaf b fit far = record { starts = λ is. cc; inner = λ is. cc; near = λ is holds. cc; sure = λ f is. is; maybe = λ f is. is }
 
 contrary : (a b : Bool) → (a ≡ true → b ≡ true) → not b ≡ true → not a ≡ true
 contrary true b h is = sym (ap not (h refl)) ∙ is
@@ -111,13 +61,13 @@ contains_nonempty (m ∷ ns) n c = refl
 
 module _ (d : PlainDocument) where
   abbrev Sound : Query → Type 0
-  Sound q = Agrees (near_fit q) (meaning d q) (bounds d q)
+  Sound q = Agrees (fits q) (meaning d q) (bounds d q)
 
   abbrev Agreed : Type 0
   Agreed = (q : Query) × Sound q
 
-  abbrev fits_of : List Agreed → List NearFit
-  fits_of ys = map near_fit (map (λ e. e.0) ys)
+  abbrev fits_of : List Agreed → List (Bool → Bool)
+  fits_of ys = map fits (map (λ e. e.0) ys)
 
   abbrev meanings_of : List Agreed → List Meaning
   meanings_of ys = map (meaning d) (map (λ e. e.0) ys)
@@ -126,41 +76,48 @@ module _ (d : PlainDocument) where
   bounds_of ys = map (bounds d) (map (λ e. e.0) ys)
 
   abbrev all_fit : List Agreed → Bool
-  all_fit ys = list_all (λ c. c.fits) (fits_of ys)
+  all_fit ys = list_all (λ c. c false) (fits_of ys)
 
   abbrev all_near : List Agreed → Bool
-  all_near ys = list_all (λ c. c.may_be_near) (fits_of ys)
+  all_near ys = list_all (λ c. c true) (fits_of ys)
+
+  -- the children of near keep the rule of near themselves
+  all_inner : (ys : List Agreed) → all_near ys ≡ true → all_fit ys ≡ true
+  all_inner [] near = refl
+  all_inner (e ∷ ys) near =
+      let nears = and_parts (fits e.0 true) (all_near ys) near in
+      and_from _ _ (e.1.inner nears.0) (all_inner ys nears.1)
 
   all_sure : (ys : List Agreed) → all_fit ys ≡ true → list_all (λ b. b.sure) (bounds_of ys) ≡ true →
       list_all (λ m. m.holds) (meanings_of ys) ≡ true
   all_sure [] fit is = refl
   all_sure (e ∷ ys) fit is =
-      let fits = and_parts (near_fit e.0).fits (all_fit ys) fit in
+      let fit_parts = and_parts (fits e.0 false) (all_fit ys) fit in
       let parts = and_parts (bounds d e.0).sure (list_all (λ b. b.sure) (bounds_of ys)) is in
-      and_from _ _ (e.1.sure fits.0 parts.0) (all_sure ys fits.1 parts.1)
+      and_from _ _ (e.1.sure fit_parts.0 parts.0) (all_sure ys fit_parts.1 parts.1)
 
   all_maybe : (ys : List Agreed) → all_fit ys ≡ true → list_all (λ m. m.holds) (meanings_of ys) ≡ true →
       list_all (λ b. b.maybe) (bounds_of ys) ≡ true
   all_maybe [] fit is = refl
   all_maybe (e ∷ ys) fit is =
-      let fits = and_parts (near_fit e.0).fits (all_fit ys) fit in
+      let fit_parts = and_parts (fits e.0 false) (all_fit ys) fit in
       let parts = and_parts (meaning d e.0).holds (list_all (λ m. m.holds) (meanings_of ys)) is in
-      and_from _ _ (e.1.maybe fits.0 parts.0) (all_maybe ys fits.1 parts.1)
+      and_from _ _ (e.1.maybe fit_parts.0 parts.0) (all_maybe ys fit_parts.1 parts.1)
 
   any_sure : (ys : List Agreed) → all_fit ys ≡ true → list_any (λ b. b.sure) (bounds_of ys) ≡ true →
       list_any (λ m. m.holds) (meanings_of ys) ≡ true
   any_sure [] fit is = is
   any_sure (e ∷ ys) fit is =
-      let fits = and_parts (near_fit e.0).fits (all_fit ys) fit in
-      ⊎_elim (λ here. or_left _ _ (e.1.sure fits.0 here)) (λ later. or_right _ _ (any_sure ys fits.1 later))
+      let fit_parts = and_parts (fits e.0 false) (all_fit ys) fit in
+      ⊎_elim (λ here. or_left _ _ (e.1.sure fit_parts.0 here)) (λ later. or_right _ _ (any_sure ys fit_parts.1 later))
       (or_cases (bounds d e.0).sure (list_any (λ b. b.sure) (bounds_of ys)) is)
 
   any_maybe : (ys : List Agreed) → all_fit ys ≡ true → list_any (λ m. m.holds) (meanings_of ys) ≡ true →
       list_any (λ b. b.maybe) (bounds_of ys) ≡ true
   any_maybe [] fit is = is
   any_maybe (e ∷ ys) fit is =
-      let fits = and_parts (near_fit e.0).fits (all_fit ys) fit in
-      ⊎_elim (λ here. or_left _ _ (e.1.maybe fits.0 here)) (λ later. or_right _ _ (any_maybe ys fits.1 later))
+      let fit_parts = and_parts (fits e.0 false) (all_fit ys) fit in
+      ⊎_elim (λ here. or_left _ _ (e.1.maybe fit_parts.0 here)) (λ later. or_right _ _ (any_maybe ys fit_parts.1 later))
       (or_cases (meaning d e.0).holds (list_any (λ m. m.holds) (meanings_of ys)) is)
 
   any_starts : (ys : List Agreed) → list_any (λ m. is_nonempty m.starts) (meanings_of ys) ≡ true → list_any (λ m. m.holds) (meanings_of ys) ≡ true
@@ -173,7 +130,7 @@ module _ (d : PlainDocument) where
       list_any (λ m. is_nonempty m.starts) (meanings_of ys) ≡ true
   any_near [] near is = is
   any_near (e ∷ ys) near is =
-      let nears = and_parts (near_fit e.0).may_be_near (all_near ys) near in
+      let nears = and_parts (fits e.0 true) (all_near ys) near in
       ⊎_elim (λ here. or_left _ _ (e.1.near nears.0 here)) (λ later. or_right _ _ (any_near ys nears.1 later))
       (or_cases (meaning d e.0).holds (list_any (λ m. m.holds) (meanings_of ys)) is)
 
@@ -181,8 +138,8 @@ module _ (d : PlainDocument) where
       (near_bounds (bounds_of ys)).sure ≡ true → is_near distance ordered (map (λ m. m.starts) (meanings_of ys)) ≡ true
   near_sure [] distance ordered near fit is = nothing_near distance ordered
   near_sure (e ∷ []) distance ordered near fit is =
-      alone distance ordered (meaning d e.0).starts (e.1.near (and_parts (near_fit e.0).may_be_near true near).0
-      (e.1.sure (and_parts (near_fit e.0).fits true fit).0 is))
+      alone distance ordered (meaning d e.0).starts (e.1.near (and_parts (fits e.0 true) true near).0
+      (e.1.sure (and_parts (fits e.0 false) true fit).0 is))
   near_sure (e ∷ f ∷ ys) distance ordered near fit is = cc
 
   each_maybe : (ys : List Agreed) (chosen : List ℕ) → ChoosesOne chosen (map (λ m. m.starts) (meanings_of ys)) →
@@ -190,8 +147,8 @@ module _ (d : PlainDocument) where
   each_maybe [] chosen one fit = refl
   each_maybe (e ∷ ys) [] one fit = absurd one
   each_maybe (e ∷ ys) (n ∷ chosen) one fit =
-      let fits = and_parts (near_fit e.0).fits (all_fit ys) fit in
-      and_from _ _ (e.1.maybe fits.0 (e.1.starts (contains_nonempty (meaning d e.0).starts n one.0))) (each_maybe ys chosen one.1 fits.1)
+      let fit_parts = and_parts (fits e.0 false) (all_fit ys) fit in
+      and_from _ _ (e.1.maybe fit_parts.0 (e.1.starts (contains_nonempty (meaning d e.0).starts n one.0))) (each_maybe ys chosen one.1 fit_parts.1)
 
   near_all : (ys : List Agreed) → list_all (λ b. b.maybe) (bounds_of ys) ≡ true → (near_bounds (bounds_of ys)).maybe ≡ true
   near_all [] is = refl
@@ -204,44 +161,49 @@ module _ (d : PlainDocument) where
       let near = near_of distance ordered (map (λ m. m.starts) (meanings_of ys)) is in
       near_all ys (each_maybe ys near.chosen near.one_each fit)
 
-  layer : (y : Query-F Agreed) → Agrees (near_step (map-Query Query NearFit near_fit (map-Query Agreed Query (λ e. e.0) y)))
+  layer : (y : Query-F Agreed) → Agrees (fits_step (map-Query Query (Bool → Bool) fits (map-Query Agreed Query (λ e. e.0) y)))
       (meaning_step d (map-Query Query Meaning (meaning d) (map-Query Agreed Query (λ e. e.0) y)))
       (bounds_step d (map-Query Query Bounds (bounds d) (map-Query Agreed Query (λ e. e.0) y)))
   layer Query-F.True = leaf _ _ refl
   layer Query-F.False = leaf _ _ refl
-  layer (Query-F.And ys) = record { starts = λ is. cc; near = λ is holds. is; sure = all_sure ys; maybe = all_maybe ys }
+  layer (Query-F.And ys) = record { starts = λ is. cc; inner = λ is. cc; near = λ is holds. is; sure = all_sure ys; maybe = all_maybe ys }
   layer (Query-F.Or ys) = record {
     starts = λ is. any_starts ys (sym (nonempty-flat_map (λ m. m.starts) (meanings_of ys)) ∙ is);
+    inner = all_inner ys;
     near = λ near holds. nonempty-flat_map (λ m. m.starts) (meanings_of ys) ∙ any_near ys near holds;
     sure = any_sure ys;
     maybe = any_maybe ys;
   }
   layer (Query-F.Not e) = record {
     starts = λ is. cc;
+    inner = λ is. cc;
     near = λ is holds. is;
-    sure = λ fit. contrary _ _ (e.1.maybe (and_parts (near_fit e.0).fits true fit).0);
-    maybe = λ fit. contrary _ _ (e.1.sure (and_parts (near_fit e.0).fits true fit).0);
+    sure = λ fit. contrary _ _ (e.1.maybe fit);
+    maybe = λ fit. contrary _ _ (e.1.sure fit);
   }
   layer (Query-F.AndNot p n) = record {
     starts = λ is. cc;
+    inner = λ is. cc;
     near = λ is holds. is;
     sure = λ fit is.
-        let fits = and_parts (near_fit p.0).fits ((near_fit n.0).fits && true) fit in
+        let fit_parts = and_parts (fits p.0 false) (fits n.0 false) fit in
         let parts = and_parts (bounds d p.0).sure (not (bounds d n.0).maybe) is in
-        and_from _ _ (p.1.sure fits.0 parts.0) (contrary _ _ (n.1.maybe (and_parts (near_fit n.0).fits true fits.1).0) parts.1);
+        and_from _ _ (p.1.sure fit_parts.0 parts.0) (contrary _ _ (n.1.maybe fit_parts.1) parts.1);
     maybe = λ fit is.
-        let fits = and_parts (near_fit p.0).fits ((near_fit n.0).fits && true) fit in
+        let fit_parts = and_parts (fits p.0 false) (fits n.0 false) fit in
         let parts = and_parts (meaning d p.0).holds (not (meaning d n.0).holds) is in
-        and_from _ _ (p.1.maybe fits.0 parts.0) (contrary _ _ (n.1.sure (and_parts (near_fit n.0).fits true fits.1).0) parts.1);
+        and_from _ _ (p.1.maybe fit_parts.0 parts.0) (contrary _ _ (n.1.sure fit_parts.1) parts.1);
   }
   layer (Query-F.Word texts case) = record {
     starts = λ is. is;
+    inner = λ fit. refl;
     near = λ near is. is;
     sure = λ fit. word_sure (strings d.root) case texts;
     maybe = λ fit. word_maybe (strings d.root) case texts;
   }
   layer (Query-F.PropWord names texts case) = record {
     starts = λ is. is;
+    inner = λ fit. refl;
     near = λ near is. is;
     sure = λ fit. prop_sure (strings d.root) case names texts;
     maybe = λ fit. prop_maybe (strings d.root) case names texts;
@@ -250,16 +212,17 @@ module _ (d : PlainDocument) where
   layer (Query-F.Range names op values) = leaf _ _ refl
   layer (Query-F.Near ys distance ordered) = record {
     starts = λ is. cc;
+    inner = λ is. cc;
     near = λ is holds. is;
-    sure = λ fit is. let fits = and_parts (all_near ys) (all_fit ys) fit in near_sure ys distance ordered fits.0 fits.1 is;
-    maybe = λ fit is. near_maybe ys distance ordered (and_parts (all_near ys) (all_fit ys) fit).1 is;
+    sure = λ near. near_sure ys distance ordered near (all_inner ys near);
+    maybe = λ near. near_maybe ys distance ordered (all_inner ys near);
   }
   layer (Query-F.Collection names) = leaf _ _ refl
   layer (Query-F.Directory uris infinite) = leaf _ _ refl
   layer (Query-F.DocUri uris) = leaf _ _ refl
 
-  near_roll : (z : Query-F Query) → near_fit (roll-Query z) ≡ near_step (map-Query Query NearFit near_fit z)
-  near_roll = fold-roll-Query NearFit near_step
+  fits_roll : (z : Query-F Query) → fits (roll-Query z) ≡ fits_step (map-Query Query (Bool → Bool) fits z)
+  fits_roll = fold-roll-Query (Bool → Bool) fits_step
 
   meaning_roll : (z : Query-F Query) → meaning d (roll-Query z) ≡ meaning_step d (map-Query Query Meaning (meaning d) z)
   meaning_roll = fold-roll-Query Meaning (meaning_step d)
@@ -267,14 +230,14 @@ module _ (d : PlainDocument) where
   bounds_roll : (z : Query-F Query) → bounds d (roll-Query z) ≡ bounds_step d (map-Query Query Bounds (bounds d) z)
   bounds_roll = fold-roll-Query Bounds (bounds_step d)
 
-  rolled : (fit fit' : NearFit) (m m' : Meaning) (b b' : Bounds) → fit ≡ fit' → m ≡ m' → b ≡ b' → Agrees fit' m' b' → Agrees fit m b
+  rolled : (fit fit' : Bool → Bool) (m m' : Meaning) (b b' : Bounds) → fit ≡ fit' → m ≡ m' → b ≡ b' → Agrees fit' m' b' → Agrees fit m b
   rolled fit fit' m m' b b' e f g h =
       subst (λ x. Agrees x m b) (sym e) (subst (λ x. Agrees fit' x b) (sym f) (subst (λ x. Agrees fit' m' x) (sym g) h))
 
   step : (y : Query-F Agreed) → Sound (roll-Query (map-Query Agreed Query (λ e. e.0) y))
   step y =
       let z : Query-F Query = map-Query Agreed Query (λ e. e.0) y in
-      rolled _ _ _ _ _ _ (near_roll z) (meaning_roll z) (bounds_roll z) (layer y)
+      rolled _ _ _ _ _ _ (fits_roll z) (meaning_roll z) (bounds_roll z) (layer y)
 
   sound : (q : Query) → Sound q
   sound = ind-Query Sound (λ x y is. subst (λ z. Sound (roll-Query z)) is (step y))
@@ -287,9 +250,9 @@ not_broken false false true fit w x y z r is = cc
 not_broken false false false true w x y z r is = refl
 not_broken false false false false w x y z r is = cc
 
-keeps_near : (q : Query) (indexes : List Index) → broken_query_rule q indexes ≡ None → (near_fit q).fits ≡ true
+keeps_near : (q : Query) (indexes : List Index) → broken_query_rule q indexes ≡ None → near_children_fit q ≡ true
 keeps_near q indexes is =
-    not_broken (ltb 32 (query_depth q)) (ltb 10_000 (query_count q)) (not (directories_end q)) (near_fit q).fits
+    not_broken (ltb 32 (query_depth q)) (ltb 10_000 (query_count q)) (not (directories_end q)) (near_children_fit q)
     (rule.TooDeep 32) (rule.TooMany 10_000) rule.BadDirectory rule.NearChild (no_range (missing_index q indexes)) is
 
 pub sure_satisfies : SureSatisfies

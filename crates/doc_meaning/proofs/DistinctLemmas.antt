@@ -17,7 +17,7 @@ pub nor_both : (uris others : List (List ℕ)) (uri : List ℕ) → is_among uri
 nor_both uris others uri g h =
     list_any-append (bytes_eq uri) uris others ∙ ap (λ b. b || is_among others uri) g ∙ h
 
--- URIs of which none stands among the earlier ones
+-- URIs of which none is among the earlier ones
 abbrev AreNew : List (List ℕ) → List (List ℕ) → Type 0
 AreNew earlier uris = (uri : List ℕ) → is_among uris uri ≡ true → is_among earlier uri ≡ false
 

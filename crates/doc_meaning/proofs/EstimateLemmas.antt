@@ -5,7 +5,7 @@ use Rattle.std.specs.FinMap.{entries}
 use Rattle.doc_meaning.specs.Estimates.{maybe}
 use Rattle.doc_meaning.specs.History.{database_at}
 use Rattle.doc_meaning.specs.Laws.{EstimateIsNoLess}
-use Rattle.doc_meaning.specs.Meaning.{sat}
+use Rattle.doc_meaning.specs.Meaning.{satisfies}
 use Rattle.doc_meaning.specs.declared.version.Version.{Version}
 use Rattle.doc_meaning.proofs.BoundsLemmas.{satisfies_maybe}
 
@@ -24,6 +24,6 @@ keeps_more p q weaker (x ∷ xs) = one_more x (filter p xs) (filter q xs) (p x) 
 pub estimate_is_no_less : EstimateIsNoLess
 estimate_is_no_less h at q indexes keeps =
     let found : List (List ℕ × Version) = entries (database_at h at) in
-    let fewer : length (filter (λ e. sat q e.1.document) found) ≤ length (filter (λ e. maybe q e.1.document) found) =
-    keeps_more (λ e. sat q e.1.document) (λ e. maybe q e.1.document) (λ e. satisfies_maybe q indexes e.1.document keeps) found in
-    rw (length-map (filter (λ e. sat q e.1.document) found) (λ e. e.0)) fewer
+    let fewer : length (filter (λ e. satisfies q e.1.document) found) ≤ length (filter (λ e. maybe q e.1.document) found) =
+    keeps_more (λ e. satisfies q e.1.document) (λ e. maybe q e.1.document) (λ e. satisfies_maybe q indexes e.1.document keeps) found in
+    rw (length-map (filter (λ e. satisfies q e.1.document) found) (λ e. e.0)) fewer

@@ -15,7 +15,7 @@ use Rattle.doc_model.specs.declared.node.Node.TheViews.{roll-Node}
 use Rattle.doc_model.specs.declared.node.Node.TheFolds.{fold-roll-Node, ind-Node}
 use Rattle.doc_meaning.specs.Words.{is_word_char, joined, spans, words, plain}
 use Rattle.doc_meaning.specs.declared.string_node.StringNode.{StringNode}
-use Rattle.doc_meaning.specs.Strings.{Owner, scalars, scalars_step, scalars_under, strings, text_of, with_bases}
+use Rattle.doc_meaning.specs.Strings.{Property, scalars, scalars_step, scalars_under, strings, text_of, with_positions}
 use Rattle.doc_model.specs.declared.scalar.Scalar.{Scalar}
 use Rattle.std.specs.List.{filter_map}
 use Rattle.std.proofs.lemmas.Bool.Decides.{nat_tests}
@@ -59,55 +59,55 @@ length-plain text =
     omega (arith, as_many, length-spans (chars text) 0, length-chars text)
 
 -- the texts of a node
-abbrev strings_under : Node → Owner → List (Owner × List ℕ)
-strings_under n owner = filter_map text_of (scalars_under n owner)
+abbrev strings_under : Node → Property → List (Property × List ℕ)
+strings_under n property = filter_map text_of (scalars_under n property)
 
 -- how many words the texts of a tree have
-abbrev pub word_count : List (Owner × List ℕ) → ℕ
+abbrev pub word_count : List (Property × List ℕ) → ℕ
 word_count = sum_by (λ s. length (plain s.1))
 
 abbrev Fits : Node → Type 0
-Fits n = (owner : Owner) → word_count (strings_under n owner) ≤ size n
+Fits n = (property : Property) → word_count (strings_under n property) ≤ size n
 
 abbrev Fitting : Type 0
 Fitting = (n : Node) × Fits n
 
-strings_roll : (z : Node-F Node) (owner : Owner) →
-    strings_under (roll-Node z) owner
-    ≡ filter_map text_of (scalars_step (map-Node Node (Owner → List (Owner × Scalar)) scalars_under z) owner)
-strings_roll z owner =
-    ap (λ f. filter_map text_of (f owner)) (fold-roll-Node (Owner → List (Owner × Scalar)) scalars_step z)
+strings_roll : (z : Node-F Node) (property : Property) →
+    strings_under (roll-Node z) property
+    ≡ filter_map text_of (scalars_step (map-Node Node (Property → List (Property × Scalar)) scalars_under z) property)
+strings_roll z property =
+    ap (λ f. filter_map text_of (f property)) (fold-roll-Node (Property → List (Property × Scalar)) scalars_step z)
 
 size_roll : (z : Node-F Node) → size (roll-Node z) ≡ size_step (map-Node Node ℕ size z)
 size_roll = fold-roll-Node ℕ size_step
 
-word_count-append : (xs ys : List (Owner × Scalar)) →
+word_count-append : (xs ys : List (Property × Scalar)) →
     word_count (filter_map text_of (xs ++ ys))
     ≡ word_count (filter_map text_of xs) + word_count (filter_map text_of ys)
 word_count-append xs ys = ap word_count (filter_map-append text_of xs ys)
     ∙ sum_by-append (λ s. length (plain s.1)) (filter_map text_of xs) (filter_map text_of ys)
 
-together : (xs ys : List (Owner × Scalar)) (m n : ℕ) →
+together : (xs ys : List (Property × Scalar)) (m n : ℕ) →
     word_count (filter_map text_of xs) ≤ m → word_count (filter_map text_of ys) ≤ n →
     word_count (filter_map text_of (xs ++ ys)) ≤ m + n
 together xs ys m n p q = omega (arith, word_count-append xs ys)
 
-items_fit : (ys : List Fitting) (owner : Owner) →
-    word_count (filter_map text_of (flat_map (λ f. f owner) (map scalars_under (map (λ e. e.0) ys))))
+items_fit : (ys : List Fitting) (property : Property) →
+    word_count (filter_map text_of (flat_map (λ f. f property) (map scalars_under (map (λ e. e.0) ys))))
     ≤ sum (map size (map (λ e. e.0) ys))
-items_fit [] owner = omega arith
-items_fit (e ∷ ys) owner =
-    let rest : List (Owner × Scalar) = flat_map (λ f. f owner) (map scalars_under (map (λ d. d.0) ys)) in
+items_fit [] property = omega arith
+items_fit (e ∷ ys) property =
+    let rest : List (Property × Scalar) = flat_map (λ f. f property) (map scalars_under (map (λ d. d.0) ys)) in
     let sizes : ℕ = sum (map size (map (λ d. d.0) ys)) in
-    subst (λ total. word_count (filter_map text_of (scalars_under e.0 owner ++ rest)) ≤ total)
+    subst (λ total. word_count (filter_map text_of (scalars_under e.0 property ++ rest)) ≤ total)
     (sym (sum_by-cons (λ n. n) (size e.0) (map size (map (λ d. d.0) ys))))
-    (together (scalars_under e.0 owner) rest (size e.0) sizes (e.1 owner) (items_fit ys owner))
+    (together (scalars_under e.0 property) rest (size e.0) sizes (e.1 property) (items_fit ys property))
 
 -- the nodes of members, their scalars and their sizes, each under the member's name
 abbrev nodes_named : List (List ℕ × Fitting) → List (List ℕ × Node)
 nodes_named ms = map (λ m. (m.0, m.1.0)) ms
 
-abbrev scalars_named : List (List ℕ × Node) → List (List ℕ × (Owner → List (Owner × Scalar)))
+abbrev scalars_named : List (List ℕ × Node) → List (List ℕ × (Property → List (Property × Scalar)))
 scalars_named ns = map (λ n. (n.0, scalars_under n.1)) ns
 
 abbrev sizes_named : List (List ℕ × Node) → List (List ℕ × ℕ)
@@ -118,7 +118,7 @@ members_fit : (ms : List (List ℕ × Fitting)) →
     ≤ sum_by (λ m. length m.0 + m.1) (sizes_named (nodes_named ms))
 members_fit [] = omega arith
 members_fit (m ∷ ms) =
-    let rest : List (Owner × Scalar) = flat_map (λ k. k.1 (Some k.0)) (scalars_named (nodes_named ms)) in
+    let rest : List (Property × Scalar) = flat_map (λ k. k.1 (Some k.0)) (scalars_named (nodes_named ms)) in
     let sizes : ℕ = sum_by (λ k. length k.0 + k.1) (sizes_named (nodes_named ms)) in
     subst (λ total. word_count (filter_map text_of (scalars_under m.1.0 (Some m.0) ++ rest)) ≤ total)
     (sym (sum_by-cons (λ k. length k.0 + k.1) (m.0, size m.1.0) (sizes_named (nodes_named ms))))
@@ -126,21 +126,21 @@ members_fit (m ∷ ms) =
     (omega (arith, m.1.1 (Some m.0))) (members_fit ms))
 
 step : (y : Node-F Fitting) → Fits (roll-Node (map-Node Fitting Node (λ e. e.0) y))
-step y owner = rw (strings_roll, size_roll) (go y)
+step y property = rw (strings_roll, size_roll) (go y)
   where
     inner : Node-F Fitting → Node-F Node
     inner = map-Node Fitting Node (λ e. e.0)
 
-    under : Node-F Fitting → Node-F (Owner → List (Owner × Scalar))
-    under y = map-Node Node (Owner → List (Owner × Scalar)) scalars_under (inner y)
+    under : Node-F Fitting → Node-F (Property → List (Property × Scalar))
+    under y = map-Node Node (Property → List (Property × Scalar)) scalars_under (inner y)
 
     go : (y : Node-F Fitting) →
-        word_count (filter_map text_of (scalars_step (under y) owner)) ≤ size_step (map-Node Node ℕ size (inner y))
+        word_count (filter_map text_of (scalars_step (under y) property)) ≤ size_step (map-Node Node ℕ size (inner y))
     go Node-F.Null = omega arith
     go (Node-F.Bool b) = omega arith
     go (Node-F.Num n) = omega arith
     go (Node-F.Text t) = omega (arith, length-plain t)
-    go (Node-F.Items ys) = omega (arith, items_fit ys owner)
+    go (Node-F.Items ys) = omega (arith, items_fit ys property)
     go (Node-F.Members ms) = omega (arith, members_fit ms)
 
 pub words_fit : (n : Node) → Fits n
@@ -152,17 +152,17 @@ texts_fit n lt = omega (arith, words_fit n None, lt)
 
 -- the words of a string are numbered below 2^64
 abbrev pub IsNumbered : StringNode → Type 0
-IsNumbered s = s.base + length (plain s.text) < 2 ^ 64
+IsNumbered s = s.first_position + length (plain s.text) < 2 ^ 64
 
-bases_fit : (base : ℕ) (ss : List (Owner × List ℕ)) → base + word_count ss < 2 ^ 64 →
-    All IsNumbered (with_bases base ss)
-bases_fit base [] lt = All-nil IsNumbered
-bases_fit base (s ∷ ss) lt =
+positions_fit : (base : ℕ) (ss : List (Property × List ℕ)) → base + word_count ss < 2 ^ 64 →
+    All IsNumbered (with_positions base ss)
+positions_fit base [] lt = All-nil IsNumbered
+positions_fit base (s ∷ ss) lt =
     All-cons IsNumbered _ _ (omega (arith, lt, sum_by-cons (λ s. length (plain s.1)) s ss))
-    (bases_fit (base + length (plain s.1)) ss (omega (arith, lt, sum_by-cons (λ s. length (plain s.1)) s ss)))
+    (positions_fit (base + length (plain s.1)) ss (omega (arith, lt, sum_by-cons (λ s. length (plain s.1)) s ss)))
 
 pub strings_numbered : (n : Node) → size n < 2 ^ 64 → All IsNumbered (strings n)
-strings_numbered n lt = bases_fit 0 (filter_map text_of (scalars n)) (omega (arith, texts_fit n lt))
+strings_numbered n lt = positions_fit 0 (filter_map text_of (scalars n)) (omega (arith, texts_fit n lt))
 
 -- the first rule that is broken, of five
 abbrev first_rule : Bool → Bool → Bool → Bool → Bool → Option DocRefusal

@@ -9,10 +9,11 @@ pub mod HistoryLemmas
 pub mod MapLemmas
 pub mod MeaningLemmas
 pub mod NearLemmas
-pub mod PlaceLemmas
+pub mod PositionLemmas
 pub mod RisingLemmas
 pub mod ScalarLemmas
 pub mod ShownLemmas
 pub mod SortedLemmas
-pub mod StandLemmas
+pub mod PhraseStartLemmas
+pub mod WordBoundsLemmas
 pub mod WordsLemmas

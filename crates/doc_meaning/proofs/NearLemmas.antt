@@ -11,7 +11,7 @@ use Rattle.doc_model.specs.declared.query.Query.TheVariants as query
 use Rattle.doc_model.specs.Documents.{PlainDocument}
 use Rattle.doc_meaning.specs.declared.meaning.Meaning.{Meaning}
 use Rattle.doc_meaning.specs.Laws.{NearHoldsFurther, NearIsAChoice}
-use Rattle.doc_meaning.specs.Meaning.{meaning, meaning_step, sat}
+use Rattle.doc_meaning.specs.Meaning.{meaning, meaning_step, satisfies}
 use Rattle.doc_meaning.specs.Near.{ChoosesOne, IsNear, choices, is_near, is_rising, is_within}
 use Rattle.doc_meaning.proofs.AnyLemmas.{any-flat_map, any-map, any_same}
 
@@ -98,9 +98,9 @@ further distance far ordered children le near = record {
 }
 
 sat_near : (queries : List Query) (distance : ℕ) (ordered : Bool) (d : PlainDocument) →
-    sat (query.Near queries distance ordered) d ≡ is_near distance ordered (map (λ m. m.starts) (map (meaning d) queries))
+    satisfies (query.Near queries distance ordered) d ≡ is_near distance ordered (map (λ m. m.starts) (map (meaning d) queries))
 sat_near queries distance ordered d =
-    ap (λ q. sat q d) (sym (query.rolls-Near queries distance ordered)) ∙
+    ap (λ q. satisfies q d) (sym (query.rolls-Near queries distance ordered)) ∙
     ap (λ m. m.holds) (fold-roll-Query Meaning (meaning_step d) (Query-F.Near queries distance ordered))
 
 pub near_holds_further : NearHoldsFurther

@@ -18,7 +18,7 @@ use Rattle.doc_meaning.specs.declared.version.Version.{Version}
 use Rattle.doc_meaning.specs.History.{AreEntries, Database, History, after_entries, after_entry, after_op, after_ops, base_at, database_at, front, merge, merge_after, shown}
 use Rattle.doc_meaning.specs.Laws.{ShownIsABase}
 
--- each version stands under its own URI
+-- each version is under its own URI
 abbrev AreKeyed : Database → Type 0
 AreKeyed db = (uri : List ℕ) (v : Version) → get db uri ≡ Some v → v.document.uri ≡ uri
 

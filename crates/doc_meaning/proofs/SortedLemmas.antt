@@ -11,7 +11,7 @@ use Rattle.std.specs.declared.cmp.Ordering.{Ordering}
 use Rattle.std.specs.declared.cmp.Ordering.TheVariants.{Equal, Greater, Less}
 use Rattle.doc_meaning.specs.History.{database_at}
 use Rattle.doc_meaning.specs.Laws.{AnswersAreSorted}
-use Rattle.doc_meaning.specs.Meaning.{sat}
+use Rattle.doc_meaning.specs.Meaning.{satisfies}
 
 is_less : (o : Ordering) → is_lt o ≡ true → o ≡ Less
 is_less Less e = refl
@@ -46,5 +46,5 @@ module _ {K X : Type 0} (R : K → K → Ordering) (p : K × X → Bool) where
       ]
 
 pub answers_are_sorted : AnswersAreSorted
-answers_are_sorted h at q = kept_sorted (slice_cmp nat_cmp) (λ e. sat q e.1.document) (entries (database_at h at))
+answers_are_sorted h at q = kept_sorted (slice_cmp nat_cmp) (λ e. satisfies q e.1.document) (entries (database_at h at))
     (from_T _ (entries_sorted (database_at h at)))

@@ -9,7 +9,7 @@ use Rattle.std.proofs.Math.Utf8.{encode, encodes}
 use Rattle.std.specs.Char.{len_utf8}
 use Rattle.std.specs.List.{AllAdjacentBelow, list_any}
 use Rattle.doc_meaning.specs.Laws.{WordsAreMaximalRuns}
-use Rattle.doc_meaning.specs.Runs.{Covers, IsEdge, StandsAt}
+use Rattle.doc_meaning.specs.Runs.{Covers, IsEdge, IsCharAt}
 use Rattle.doc_meaning.specs.Words.{Span, is_word_char, joined, spans, words}
 
 -- the spans begin from `at` on, each has a byte, and there is a byte between two
@@ -60,7 +60,7 @@ apart at (span ∷ next ∷ rest) h (suc k) d lt =
     apart (span.1 + 1) (next ∷ rest) h.2 k d below in
     rw e later
 
--- the byte lies within the span, and within one of the spans
+-- the byte is within the span, and within one of the spans
 abbrev covers : ℕ → Span → Bool
 covers place span = leb span.0 place && ltb place span.1
 
@@ -90,7 +90,7 @@ covered_joined place from to (span ∷ rest) lt h = go (eqb to span.0) refl
         ∙ ap (λ n. covers place (from, to) || (covers place (n, span.1) || covered place rest)) meet
     go false e = refl
 
--- no byte before the spans lies within one
+-- no byte before the spans is within one
 not_before : (place at : ℕ) (rest : List Span) → place < at → Rise at rest → covered place rest ≡ false
 not_before place at [] lt h = refl
 not_before place at (span ∷ rest) lt h =
@@ -162,8 +162,8 @@ module _ (text : List ℕ) (utf8 : IsUtf8 text) where
         | false ↦ rest
       ]
 
-  stands : (place c : ℕ) → StandsAt text place c → covered place (spans 0 (chars text)) ≡ is_word_char c
-  stands place c at =
+  occurs : (place c : ℕ) → IsCharAt text place c → covered place (spans 0 (chars text)) ≡ is_word_char c
+  occurs place c at =
       let whole : 0 + length (encodes at.0) ≡ place = omega (arith, at.3) in
       ap (λ cs. covered place (spans 0 cs)) at.2 ∙ ap (λ p. covered p (spans 0 (at.0 ++ c ∷ at.1))) (sym whole) ∙
       exact 0 at.0 c at.1
@@ -183,8 +183,8 @@ pub words_are_maximal_runs : WordsAreMaximalRuns
 unfolding words
 words_are_maximal_runs text utf8 = record {
   exact = λ place c at. (
-    λ is. some_covers place (spans 0 (chars text)) (stands text utf8 place c at ∙ is),
-    λ some. sym (stands text utf8 place c at) ∙ covered_by place (spans 0 (chars text)) some,
+    λ is. some_covers place (spans 0 (chars text)) (occurs text utf8 place c at ∙ is),
+    λ some. sym (occurs text utf8 place c at) ∙ covered_by place (spans 0 (chars text)) some,
   );
   filled = filled 0 (spans 0 (chars text)) (spans_rise 0 (chars text));
   edges = spans_edges text utf8 0 [] (chars text) refl refl;

@@ -5,11 +5,11 @@ use Rattle.doc_model.specs.declared.query.Query.{Query}
 use Rattle.doc_meaning.specs.declared.version.Version.{Version}
 use Rattle.doc_meaning.specs.Estimates.{maybe}
 use Rattle.doc_meaning.specs.History.{Database, History, database_at}
-use Rattle.doc_meaning.specs.Meaning.{sat}
+use Rattle.doc_meaning.specs.Meaning.{satisfies}
 
 -- the URIs of the documents that satisfy a query, in their order
 abbrev pub matching : List (List ℕ × Version) → Query → List (List ℕ)
-matching found q = map (λ e. e.0) (filter (λ e. sat q e.1.document) found)
+matching found q = map (λ e. e.0) (filter (λ e. satisfies q e.1.document) found)
 
 -- the same of a database, in the order of the bytes
 abbrev pub answer_in : Database → Query → List (List ℕ)

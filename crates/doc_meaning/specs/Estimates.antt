@@ -3,14 +3,15 @@
 use Rattle.std.specs.Prelude.{ℕ, Bool, true, false, ◌&&◌, not, List, [], ◌∷◌, map, filter, Some}
 use Rattle.std.specs.List.{list_any, list_all}
 use Rattle.doc_model.specs.Documents.{PlainDocument}
+use Rattle.doc_model.specs.Tree.{is_among}
 use Rattle.doc_model.specs.declared.query.Case.{Case}
 use Rattle.doc_model.specs.declared.query.Query.{Query}
 use Rattle.doc_model.specs.declared.query.Query.TheOpen.{Query-F}
 use Rattle.doc_model.specs.declared.query.Query.TheFolds.{fold-Query}
 use Rattle.doc_meaning.specs.declared.bounds.Bounds.{Bounds}
 use Rattle.doc_meaning.specs.declared.string_node.StringNode.{StringNode}
-use Rattle.doc_meaning.specs.Meaning.{is_nonempty, leaf_holds}
-use Rattle.doc_meaning.specs.Strings.{strings, is_owned, is_blind, words_seen, places}
+use Rattle.doc_meaning.specs.Meaning.{has_in_range, has_value, have_common, is_in_directory, is_nonempty}
+use Rattle.doc_meaning.specs.Strings.{strings, is_named, ignores_case, words_seen, positions}
 
 -- both tests agree
 abbrev pub exactly : Bool → Bounds
@@ -24,44 +25,44 @@ only_maybe b = record { sure = false; maybe = b }
 abbrev pub any_bound : List Bounds → Bounds
 any_bound all = record { sure = list_any (λ b. b.sure) all; maybe = list_any (λ b. b.maybe) all }
 
--- the words stand one after another in some string
-abbrev pub stand : List StringNode → Bool → List (List ℕ) → Bool
-stand found blind ws = list_any (λ s. is_nonempty (places ws (words_seen blind s.text))) found
+-- the words occur one after another in some string
+abbrev pub occur : List StringNode → Bool → List (List ℕ) → Bool
+occur found any_case ws = list_any (λ s. is_nonempty (positions ws (words_seen any_case s.text))) found
 
--- each word stands somewhere
-abbrev pub each_stands : List StringNode → Bool → List (List ℕ) → Bool
-each_stands found blind ws = list_all (λ w. stand found blind (w ∷ [])) ws
+-- each word occurs somewhere
+abbrev pub each_occurs : List StringNode → Bool → List (List ℕ) → Bool
+each_occurs found any_case ws = list_all (λ w. occur found any_case (w ∷ [])) ws
 
--- each word and the one behind it stand somewhere one after another
-abbrev pub neighbours_stand : List StringNode → Bool → List (List ℕ) → Bool
-neighbours_stand found blind [] = true
-neighbours_stand found blind (w ∷ []) = true
-neighbours_stand found blind (v ∷ w ∷ ws) = stand found blind (v ∷ w ∷ []) && neighbours_stand found blind (w ∷ ws)
+-- each word and the one behind it occur one after another somewhere
+abbrev pub neighbours_occur : List StringNode → Bool → List (List ℕ) → Bool
+neighbours_occur found any_case [] = true
+neighbours_occur found any_case (w ∷ []) = true
+neighbours_occur found any_case (v ∷ w ∷ ws) = occur found any_case (v ∷ w ∷ []) && neighbours_occur found any_case (w ∷ ws)
 
 -- one word or two are found exactly; of more, only neighbours are looked at
 abbrev pub word_bounds : List StringNode → Bool → List (List ℕ) → Bounds
-word_bounds found blind [] = exactly false
-word_bounds found blind (w ∷ []) = exactly (stand found blind (w ∷ []))
-word_bounds found blind (v ∷ w ∷ []) = exactly (stand found blind (v ∷ w ∷ []))
-word_bounds found blind ws = only_maybe (neighbours_stand found blind ws)
+word_bounds found any_case [] = exactly false
+word_bounds found any_case (w ∷ []) = exactly (occur found any_case (w ∷ []))
+word_bounds found any_case (v ∷ w ∷ []) = exactly (occur found any_case (v ∷ w ∷ []))
+word_bounds found any_case ws = only_maybe (neighbours_occur found any_case ws)
 
 -- a text anywhere in a document
 abbrev pub text_bounds : List StringNode → Case → List ℕ → Bounds
-text_bounds found case text = let blind = is_blind case text in word_bounds found blind (words_seen blind text)
+text_bounds found case text = let any_case = ignores_case case text in word_bounds found any_case (words_seen any_case text)
 
 -- in a property one word is found exactly; of more, each word there and neighbours anywhere are looked at
 abbrev pub prop_word_bounds : List StringNode → List StringNode → Bool → List (List ℕ) → Bounds
-prop_word_bounds found owned blind [] = exactly false
-prop_word_bounds found owned blind (w ∷ []) = exactly (stand owned blind (w ∷ []))
-prop_word_bounds found owned blind ws = only_maybe (each_stands owned blind ws && neighbours_stand found blind ws)
+prop_word_bounds found owned any_case [] = exactly false
+prop_word_bounds found owned any_case (w ∷ []) = exactly (occur owned any_case (w ∷ []))
+prop_word_bounds found owned any_case ws = only_maybe (each_occurs owned any_case ws && neighbours_occur found any_case ws)
 
 -- a text in one property
 abbrev pub prop_text_bounds : List StringNode → Case → List ℕ → List ℕ → Bounds
 prop_text_bounds found case text name =
-    let blind = is_blind case text in
-    prop_word_bounds found (filter (λ s. is_owned (Some (name ∷ [])) s.owner) found) blind (words_seen blind text)
+    let any_case = ignores_case case text in
+    prop_word_bounds found (filter (λ s. is_named (Some (name ∷ [])) s.property) found) any_case (words_seen any_case text)
 
--- children that stand close to each other: without children it holds, one child is that child
+-- near: it holds without children, with one child it is that child, and with more only `maybe` says anything
 abbrev pub near_bounds : List Bounds → Bounds
 near_bounds [] = exactly true
 near_bounds (child ∷ []) = child
@@ -79,7 +80,13 @@ module _ (d : PlainDocument) where
   bounds_step (Query-F.PropWord names texts case) =
       any_bound (map (λ name. any_bound (map (λ text. prop_text_bounds (strings d.root) case text name) texts)) names)
   bounds_step (Query-F.Near queries distance ordered) = near_bounds queries
-  bounds_step q = exactly (leaf_holds d q)
+  bounds_step Query-F.True = exactly true
+  bounds_step Query-F.False = exactly false
+  bounds_step (Query-F.PropValue names values case exact) = exactly (has_value d names values case exact)
+  bounds_step (Query-F.Range names op values) = exactly (has_in_range d names op values)
+  bounds_step (Query-F.Collection names) = exactly (have_common d.collections names)
+  bounds_step (Query-F.Directory uris infinite) = exactly (is_in_directory d uris infinite)
+  bounds_step (Query-F.DocUri uris) = exactly (is_among uris d.uri)
 
   -- both tests of a query
   abbrev pub bounds : Query → Bounds
@@ -92,3 +99,7 @@ sure q d = (bounds d q).sure
 -- of a query that keeps its rules, each document that satisfies it passes
 abbrev pub maybe : Query → PlainDocument → Bool
 maybe q d = (bounds d q).maybe
+
+-- a document that passes the wider test of a query and not the narrower one
+abbrev pub is_doubtful : Query → PlainDocument → Bool
+is_doubtful q d = maybe q d && not (sure q d)

@@ -38,7 +38,7 @@ abbrev pub after_entries : ℕ → List Entry → Database → Database
 after_entries front [] db = db
 after_entries front (entry ∷ entries) db = after_entries (front + 1) entries (after_entry (front + 1) entry db)
 
--- the merge timestamp once these entries stand: that of the last forget, if there is one
+-- the merge timestamp after these entries: that of the last forget, if there is one
 abbrev pub merge_after : ℕ → List Entry → ℕ
 merge_after merge [] = merge
 merge_after merge (Commit ops ∷ entries) = merge_after merge entries

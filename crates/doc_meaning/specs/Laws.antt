@@ -18,7 +18,7 @@ use Rattle.doc_model.specs.declared.query.Query.TheVariants.{And, Near}
 use Rattle.doc_meaning.specs.Answers.{answer, estimate}
 use Rattle.doc_meaning.specs.Estimates.{maybe, sure}
 use Rattle.doc_meaning.specs.History.{History, IsBase, IsHistory, first, front, merge, latest, database_at, shown, base_at}
-use Rattle.doc_meaning.specs.Meaning.{sat}
+use Rattle.doc_meaning.specs.Meaning.{satisfies}
 use Rattle.doc_meaning.specs.Near.{is_near, is_rising, IsNear}
 use Rattle.doc_meaning.specs.Runs.{AreMaximalRuns}
 use Rattle.doc_meaning.specs.Words.{words}
@@ -38,7 +38,7 @@ LaterEntriesChangeNothing = (h : History) (more : List Entry) (at : ℕ) → at 
 
 -- a document satisfies an and-query exactly where it satisfies each child
 abbrev pub AndSatisfiesEach : Type 0
-AndSatisfiesEach = (queries : List Query) (d : PlainDocument) → IsTrue (sat (And queries) d) ↔ All (λ q. IsTrue (sat q d)) queries
+AndSatisfiesEach = (queries : List Query) (d : PlainDocument) → IsTrue (satisfies (And queries) d) ↔ All (λ q. IsTrue (satisfies q d)) queries
 
 -- near is a choice of one start per child
 abbrev pub NearIsAChoice : Type 0
@@ -52,17 +52,17 @@ RisingRises = (ns : List ℕ) → IsTrue (is_rising ns) ↔ AllAdjacentBelow (λ
 -- near holds with every greater distance
 abbrev pub NearHoldsFurther : Type 0
 NearHoldsFurther = (queries : List Query) (distance further : ℕ) (ordered : Bool) (d : PlainDocument) → distance ≤ further →
-    IsTrue (sat (Near queries distance ordered) d) → IsTrue (sat (Near queries further ordered) d)
+    IsTrue (satisfies (Near queries distance ordered) d) → IsTrue (satisfies (Near queries further ordered) d)
 
 -- a document that passes the first test of a query that breaks no rule satisfies it
 abbrev pub SureSatisfies : Type 0
 SureSatisfies = (q : Query) (indexes : List Index) (d : PlainDocument) → broken_query_rule q indexes ≡ None →
-    IsTrue (sure q d) → IsTrue (sat q d)
+    IsTrue (sure q d) → IsTrue (satisfies q d)
 
 -- a document that satisfies a query that breaks no rule passes the second test
 abbrev pub SatisfiesMaybe : Type 0
 SatisfiesMaybe = (q : Query) (indexes : List Index) (d : PlainDocument) → broken_query_rule q indexes ≡ None →
-    IsTrue (sat q d) → IsTrue (maybe q d)
+    IsTrue (satisfies q d) → IsTrue (maybe q d)
 
 -- no fewer are estimated than answered
 abbrev pub EstimateIsNoLess : Type 0

@@ -5,6 +5,7 @@ use Rattle.std.specs.Prelude.{nat_eq}
 use Rattle.doc_model.specs.Documents.{PlainDocument}
 use Rattle.doc_model.specs.Tree.{is_among}
 use Rattle.doc_model.specs.declared.query.Case.{Case}
+use Rattle.doc_model.specs.declared.query.Compare.{Compare}
 use Rattle.doc_model.specs.declared.query.Query.{Query}
 use Rattle.doc_model.specs.declared.query.Query.TheOpen.{Query-F}
 use Rattle.doc_model.specs.declared.query.Query.TheFolds.{fold-Query}
@@ -50,16 +51,17 @@ abbrev pub word_starts : List StringNode → List (List ℕ) → Case → Option
 word_starts found texts case names = flat_map (λ text. starts_among found text case names) texts
 
 module _ (d : PlainDocument) where
-  -- whether a query without starts and without children holds
-  abbrev pub leaf_holds : {X : Type 0} → Query-F X → Bool
-  leaf_holds Query-F.True = true
-  leaf_holds Query-F.False = false
-  leaf_holds (Query-F.PropValue names values case exact) = some_pair (scalar_equals case exact) (scalars_of names d.root) values
-  leaf_holds (Query-F.Range names op values) = some_pair (in_range op) (scalars_of names d.root) values
-  leaf_holds (Query-F.Collection names) = have_common d.collections names
-  leaf_holds (Query-F.Directory uris infinite) = list_any (in_directory infinite d.uri) uris
-  leaf_holds (Query-F.DocUri uris) = is_among uris d.uri
-  leaf_holds _ = false
+  -- a scalar of one of the properties equals some value
+  abbrev pub has_value : List (List ℕ) → List Scalar → Case → Bool → Bool
+  has_value names values case exact = some_pair (scalar_equals case exact) (scalars_of names d.root) values
+
+  -- a scalar of one of the properties compares so with some value
+  abbrev pub has_in_range : List (List ℕ) → Compare → List Scalar → Bool
+  has_in_range names op values = some_pair (in_range op) (scalars_of names d.root) values
+
+  -- the URI is inside one of the directories
+  abbrev pub is_in_directory : List (List ℕ) → Bool → Bool
+  is_in_directory uris infinite = list_any (in_directory infinite d.uri) uris
 
   -- whether a query holds and where it starts, from what its children say
   abbrev pub meaning_step : Query-F Meaning → Meaning
@@ -71,12 +73,18 @@ module _ (d : PlainDocument) where
   meaning_step (Query-F.Word texts case) = from_starts (word_starts (strings d.root) texts case None)
   meaning_step (Query-F.PropWord names texts case) = from_starts (word_starts (strings d.root) texts case (Some names))
   meaning_step (Query-F.Near queries distance ordered) = plainly (is_near distance ordered (map (λ q. q.starts) queries))
-  meaning_step q = plainly (leaf_holds q)
+  meaning_step Query-F.True = plainly true
+  meaning_step Query-F.False = plainly false
+  meaning_step (Query-F.PropValue names values case exact) = plainly (has_value names values case exact)
+  meaning_step (Query-F.Range names op values) = plainly (has_in_range names op values)
+  meaning_step (Query-F.Collection names) = plainly (have_common d.collections names)
+  meaning_step (Query-F.Directory uris infinite) = plainly (is_in_directory uris infinite)
+  meaning_step (Query-F.DocUri uris) = plainly (is_among uris d.uri)
 
   -- whether a query holds of the document, and where it starts
   abbrev pub meaning : Query → Meaning
   meaning = fold-Query Meaning meaning_step
 
 -- the document satisfies the query
-abbrev pub sat : Query → PlainDocument → Bool
-sat q d = (meaning d q).holds
+abbrev pub satisfies : Query → PlainDocument → Bool
+satisfies q d = (meaning d q).holds

@@ -1,4 +1,4 @@
--- Words that stand close to each other.
+-- Words that are close to each other.
 use Rattle.std.specs.Prelude.{ℕ, ◌≡◌, ◌+◌, ◌≤◌, Bool, true, ◌||◌, ◌&&◌, not, nat_lt, nat_le, List, [], ◌∷◌, map, flat_map, Contains, All}
 use Rattle.std.specs.List.{list_any, list_all}
 

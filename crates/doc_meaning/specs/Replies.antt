@@ -1,4 +1,4 @@
--- What one thread is answered at a history.
+-- The replies to one thread at a history.
 use Rattle.std.specs.Prelude.{ℕ, ◌+◌, ◌-◌, ◌^◌, Bool, false, not, ◌||◌, ◌==◌, nat_lt, nat_le, List, [], ◌∷◌, ◌++◌, map, Option, Some, None, if◌then◌else◌}
 use Rattle.std.specs.FinMap.{get}
 use Rattle.std.specs.List.{find}
@@ -20,7 +20,7 @@ use Rattle.doc_meaning.specs.declared.version.Version.{Version}
 use Rattle.doc_meaning.specs.Answers.{answer, estimate}
 use Rattle.doc_meaning.specs.History.{Database, History, front, merge, latest, database_at}
 
--- the first URI that stands among those before it
+-- the first URI that is among those before it
 abbrev pub first_twice : List (List ℕ) → List (List ℕ) → Option (List ℕ)
 first_twice earlier [] = None
 first_twice earlier (uri ∷ uris) = if is_among earlier uri then Some uri else first_twice (earlier ++ uri ∷ []) uris
@@ -41,12 +41,12 @@ last_timestamp = 2 ^ 48 - 1
 abbrev pub is_spent : Bool → History → Bool
 is_spent full h = full || nat_le last_timestamp (front h)
 
--- a URI that is named twice is answered first
+-- a URI that is named twice comes first
 abbrev pub unless_twice : Option (List ℕ) → CommitReply → CommitReply
 unless_twice (Some uri) reply = commit.Twice uri
 unless_twice None reply = reply
 
--- a conflict is answered with the stamp that is live, 0 for none
+-- a conflict tells the stamp that is live, 0 for none
 abbrev pub unless_conflict : History → Option Op → CommitReply → CommitReply
 unless_conflict h (Some op) reply = commit.Conflict (uri_of op) (live_stamp (latest h) (uri_of op)) (front h)
 unless_conflict h None reply = reply
@@ -76,7 +76,7 @@ reply_at h at found =
     else if nat_lt (front h) at then read.New at (front h)
     else read.Found found
 
--- a rule that the query breaks is answered first
+-- a rule that the query breaks comes first
 abbrev pub unless_bad : {T : Type 0} → Option QueryBad → ReadReply T → ReadReply T
 unless_bad (Some why) reply = read.Bad why
 unless_bad None reply = reply

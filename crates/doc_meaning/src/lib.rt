@@ -1,4 +1,4 @@
-//! What words, queries and histories mean. The definitions stand in specs/; here are the types that code and
+//! What words, queries and histories mean. The definitions are in specs/; here are the types that code and
 //! definitions share, and the laws of the definitions.
 #![tactic(auto)]
 

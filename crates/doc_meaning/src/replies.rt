@@ -1,6 +1,6 @@
 use doc_model::{QueryBad, Text};
 
-/// What a commit is answered.
+/// The reply to a commit.
 #[derive(Debug, Drop)]
 pub enum CommitReply {
     /// The first URI that an earlier operation named.
@@ -13,12 +13,12 @@ pub enum CommitReply {
     Entered { at: u64 },
 }
 
-/// What a forget is answered.
+/// The reply to a forget.
 #[derive(Clone, Copy, Debug)]
 pub enum ForgetReply {
-    /// The timestamp lies below the merge timestamp.
+    /// The timestamp is below the merge timestamp.
     Back { t: u64, merge: u64 },
-    /// The timestamp lies above the front.
+    /// The timestamp is above the front.
     Ahead { t: u64, front: u64 },
     /// There is no timestamp left, or no room in the logs.
     Spent { front: u64 },
@@ -26,21 +26,21 @@ pub enum ForgetReply {
     Entered { at: u64 },
 }
 
-/// What a look is answered.
+/// The reply to a look.
 #[derive(Clone, Copy, Debug)]
 pub struct LookReply {
     pub front: u64,
     pub merge: u64,
 }
 
-/// What reading at a timestamp is answered.
+/// The reply to a read at a timestamp.
 #[derive(Debug, Drop)]
 pub enum ReadReply<T> {
     /// The query breaks a rule.
     Bad(QueryBad),
-    /// The timestamp lies below the merge timestamp.
+    /// The timestamp is below the merge timestamp.
     Old { asked: u64, merge: u64 },
-    /// The timestamp lies above the front.
+    /// The timestamp is above the front.
     New { asked: u64, front: u64 },
     Found(T),
 }

@@ -4,8 +4,8 @@ use doc_model::Text;
 #[derive(Debug, Drop)]
 pub struct StringNode {
     /// The name of the member whose value holds the text through arrays alone.
-    pub owner: Option<Text>,
+    pub property: Option<Text>,
     pub text: Text,
     /// How many words the text values before it have.
-    pub base: u64,
+    pub first_position: u64,
 }

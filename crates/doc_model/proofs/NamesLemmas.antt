@@ -1,4 +1,4 @@
--- Names of which none stands twice, one name after another.
+-- Names of which none occurs twice, one name after another.
 use Rattle.std.proofs.Common.{◌≡◌, ℕ, Bool, true, false, cond, ◌&&◌, ◌||◌, not, List, [], ◌∷◌, ◌<◌, ◌+◌, map, drop, length, get_or, Option, Some, is_some, suc, add-one, refl, sym, ap, ◌∙◌}
 use Rattle.std.proofs.Math.Seq.{drop-cons}
 use Rattle.std.proofs.lemmas.Map.Text.{btree_map_updates_str}
@@ -15,7 +15,7 @@ use Rattle.doc_model.specs.declared.node.Node.TheOpen.{Node-F}
 use Rattle.doc_model.specs.declared.node.Node.TheFolds.{fold-roll-Node}
 use Rattle.std.proofs.lemmas.List.Folds.{list_all-map}
 
--- none of the names was seen, and none stands twice
+-- none of the names was seen, and none occurs twice
 abbrev pub are_fresh : (List ℕ → Bool) → List (List ℕ) → Bool
 are_fresh seen [] = true
 are_fresh seen (name ∷ names) = not (seen name) && are_fresh (λ other. bytes_eq name other || seen other) names

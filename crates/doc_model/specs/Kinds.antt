@@ -1,4 +1,4 @@
--- The kinds of values that stand in a list, each once.
+-- The kinds of the values of a list, each once.
 use Rattle.std.specs.Prelude.{◌≡◌, Bool, List, [], ◌∷◌}
 use Rattle.std.specs.List.{find}
 use Rattle.doc_model.specs.declared.checks.kinds.Kinds.{Kinds}
@@ -11,7 +11,7 @@ abbrev pub other_kind : Kind → Kind
 other_kind kind.Decimal = kind.Text
 other_kind kind.Text = kind.Decimal
 
--- the kinds, in the order in which they first stand
+-- the kinds, in the order in which they first occur
 abbrev pub listed : Kinds → List Kind
 listed kinds.Neither = []
 listed (kinds.One first) = first ∷ []

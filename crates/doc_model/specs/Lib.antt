@@ -5,3 +5,4 @@ pub mod Documents
 pub mod Operations
 pub mod Queries
 pub mod Kinds
+pub mod Settings

@@ -1,8 +1,7 @@
--- The rules that a query keeps before it is answered.
+-- The rules that a query must keep.
 use Rattle.std.specs.Prelude.{ℕ, ◌≡◌, ◌⊎◌, ◌+◌, ◌-◌, slice_index, ◌&&◌, Bool, true, false, not, nat_lt, nat_le, ◌==◌, List, [], ◌∷◌, ◌++◌, map, flat_map, length, sum, Option, Some, None, if◌then◌else◌}
 use Rattle.std.specs.List.{list_all, list_any, filter_map, find}
 use Rattle.std.specs.Str.{bytes_eq}
-use Rattle.doc_model.specs.declared.checks.near.NearFit.{NearFit}
 use Rattle.doc_model.specs.declared.indexes.Kind.{Kind}
 use Rattle.doc_model.specs.declared.indexes.Kind.TheVariants as kind
 use Rattle.doc_model.specs.declared.query.Query.{Query}
@@ -22,7 +21,8 @@ Index = List ℕ × Kind
 abbrev pub kind_eq : Kind → Kind → Bool
 kind_eq kind.Decimal kind.Decimal = true
 kind_eq kind.Text kind.Text = true
-kind_eq _ _ = false
+kind_eq kind.Decimal kind.Text = false
+kind_eq kind.Text kind.Decimal = false
 
 -- the same name and kind
 abbrev pub index_eq : Index → Index → Bool
@@ -32,7 +32,7 @@ index_eq a b = bytes_eq a.0 b.0 && kind_eq a.1 b.1
 abbrev pub is_indexed : List Index → Index → Bool
 is_indexed indexes wanted = list_any (index_eq wanted) indexes
 
--- none stands twice
+-- no index occurs twice
 abbrev pub no_index_twice : List Index → Bool
 no_index_twice [] = true
 no_index_twice (index ∷ indexes) = not (is_indexed indexes index) && no_index_twice indexes
@@ -48,7 +48,15 @@ children (Query-F.Or queries) = queries
 children (Query-F.Not query) = query ∷ []
 children (Query-F.AndNot positive negative) = positive ∷ negative ∷ []
 children (Query-F.Near queries distance ordered) = queries
-children _ = []
+children Query-F.True = []
+children Query-F.False = []
+children (Query-F.Word texts case) = []
+children (Query-F.PropWord names texts case) = []
+children (Query-F.PropValue names values case exact) = []
+children (Query-F.Range names op values) = []
+children (Query-F.Collection uris) = []
+children (Query-F.Directory uris infinite) = []
+children (Query-F.DocUri uris) = []
 
 -- a query without children has depth 1, any other one more than its deepest child
 abbrev pub depth_step : Query-F ℕ → ℕ
@@ -58,7 +66,7 @@ depth_step q = 1 + greatest (children q)
 abbrev pub query_depth : Query → ℕ
 query_depth = fold-Query ℕ depth_step
 
--- the texts, names, values and URIs that stand in a query itself
+-- how many texts, names, values and URIs a query itself has
 abbrev pub own_parts : {X : Type 0} → Query-F X → ℕ
 own_parts (Query-F.Word texts case) = length texts
 own_parts (Query-F.PropWord names texts case) = length names + length texts
@@ -67,7 +75,13 @@ own_parts (Query-F.Range names op values) = length names + length values
 own_parts (Query-F.Collection uris) = length uris
 own_parts (Query-F.Directory uris infinite) = length uris
 own_parts (Query-F.DocUri uris) = length uris
-own_parts _ = 0
+own_parts Query-F.True = 0
+own_parts Query-F.False = 0
+own_parts (Query-F.And queries) = 0
+own_parts (Query-F.Or queries) = 0
+own_parts (Query-F.Not query) = 0
+own_parts (Query-F.AndNot positive negative) = 0
+own_parts (Query-F.Near queries distance ordered) = 0
 
 -- a query, its own parts and those of its children
 abbrev pub count_step : Query-F ℕ → ℕ
@@ -84,7 +98,19 @@ ends_with_slash uri = nat_lt 0 (length uri) && (slice_index uri (length uri - 1)
 -- the URIs of directories in a query itself
 abbrev pub own_directories : {X : Type 0} → Query-F X → List (List ℕ)
 own_directories (Query-F.Directory uris infinite) = uris
-own_directories _ = []
+own_directories Query-F.True = []
+own_directories Query-F.False = []
+own_directories (Query-F.And queries) = []
+own_directories (Query-F.Or queries) = []
+own_directories (Query-F.Not query) = []
+own_directories (Query-F.AndNot positive negative) = []
+own_directories (Query-F.Word texts case) = []
+own_directories (Query-F.PropWord names texts case) = []
+own_directories (Query-F.PropValue names values case exact) = []
+own_directories (Query-F.Range names op values) = []
+own_directories (Query-F.Near queries distance ordered) = []
+own_directories (Query-F.Collection uris) = []
+own_directories (Query-F.DocUri uris) = []
 
 -- its own do, and those of its children
 abbrev pub directories_step : Query-F Bool → Bool
@@ -94,32 +120,41 @@ directories_step q = list_all ends_with_slash (own_directories q) && list_all (�
 abbrev pub directories_end : Query → Bool
 directories_end = fold-Query Bool directories_step
 
--- word queries may be, and or-queries all of whose children may be
-abbrev pub may_be_near_step : Query-F NearFit → Bool
-may_be_near_step (Query-F.Word texts case) = true
-may_be_near_step (Query-F.PropWord names texts case) = true
-may_be_near_step (Query-F.Or queries) = list_all (λ child. child.may_be_near) queries
-may_be_near_step _ = false
+-- whether a query may be where it is; `in_near` says that this is among the children of a near query. A word query may be
+-- anywhere, an or-query where its children may be, and any other query only outside near
+abbrev pub fits_step : Query-F (Bool → Bool) → Bool → Bool
+fits_step (Query-F.Word texts case) in_near = true
+fits_step (Query-F.PropWord names texts case) in_near = true
+fits_step (Query-F.Or queries) in_near = list_all (λ child. child in_near) queries
+fits_step (Query-F.Near queries distance ordered) in_near = not in_near && list_all (λ child. child true) queries
+fits_step (Query-F.And queries) in_near = not in_near && list_all (λ child. child false) queries
+fits_step (Query-F.Not query) in_near = not in_near && query false
+fits_step (Query-F.AndNot positive negative) in_near = not in_near && (positive false && negative false)
+fits_step Query-F.True in_near = not in_near
+fits_step Query-F.False in_near = not in_near
+fits_step (Query-F.PropValue names values case exact) in_near = not in_near
+fits_step (Query-F.Range names op values) in_near = not in_near
+fits_step (Query-F.Collection uris) in_near = not in_near
+fits_step (Query-F.Directory uris infinite) in_near = not in_near
+fits_step (Query-F.DocUri uris) in_near = not in_near
 
--- the children of each near may be, in it and in its children
-abbrev pub near_fits_step : Query-F NearFit → Bool
-near_fits_step (Query-F.Near queries distance ordered) =
-    list_all (λ child. child.may_be_near) queries && list_all (λ child. child.fits) queries
-near_fits_step q = list_all (λ child. child.fits) (children q)
+abbrev pub fits : Query → Bool → Bool
+fits = fold-Query (Bool → Bool) fits_step
 
--- both of a query, from those of its children
-abbrev pub near_step : Query-F NearFit → NearFit
-near_step q = record { may_be_near = may_be_near_step q; fits = near_fits_step q }
+-- it may be a child of near: a word query, of a property or not, or an or-query all of whose children may be
+abbrev pub is_near_child : Query → Bool
+is_near_child q = fits q true
 
--- whether it may be a child of near, and the children of each near in it may be
-abbrev pub near_fit : Query → NearFit
-near_fit = fold-Query NearFit near_step
+-- the children of each near in the query may be there
+abbrev pub near_children_fit : Query → Bool
+near_children_fit q = fits q false
 
 -- the kind of index that a value of a range query wants; null and booleans aren't ordered, and want none
 abbrev pub kind_of : Scalar → Option Kind
 kind_of (scalar.Num n) = Some kind.Decimal
 kind_of (scalar.Text t) = Some kind.Text
-kind_of _ = None
+kind_of scalar.Null = None
+kind_of (scalar.Bool b) = None
 
 -- each kind of the values
 abbrev pub kinds_of : List Scalar → List Kind
@@ -132,7 +167,19 @@ range_indexes names values = flat_map (λ name. map (λ k. (name, k)) (kinds_of 
 -- the indexes that a range query itself wants
 abbrev pub own_indexes : {X : Type 0} → Query-F X → List Index
 own_indexes (Query-F.Range names op values) = range_indexes names values
-own_indexes _ = []
+own_indexes Query-F.True = []
+own_indexes Query-F.False = []
+own_indexes (Query-F.And queries) = []
+own_indexes (Query-F.Or queries) = []
+own_indexes (Query-F.Not query) = []
+own_indexes (Query-F.AndNot positive negative) = []
+own_indexes (Query-F.Word texts case) = []
+own_indexes (Query-F.PropWord names texts case) = []
+own_indexes (Query-F.PropValue names values case exact) = []
+own_indexes (Query-F.Near queries distance ordered) = []
+own_indexes (Query-F.Collection uris) = []
+own_indexes (Query-F.Directory uris infinite) = []
+own_indexes (Query-F.DocUri uris) = []
 
 -- a query's own come before those of its children
 abbrev pub indexes_step : Query-F (List Index) → List Index
@@ -161,14 +208,9 @@ broken_query_rule q indexes =
     if nat_lt 32 (query_depth q) then Some (rule.TooDeep 32)
     else if nat_lt 10_000 (query_count q) then Some (rule.TooMany 10_000)
     else if not (directories_end q) then Some rule.BadDirectory
-    else if not (near_fit q).fits then Some rule.NearChild
+    else if not (near_children_fit q) then Some rule.NearChild
     else no_range (missing_index q indexes)
 
 -- a refusal names the first rule that is broken, or want of memory
 abbrev pub RefusesQuery : Query → List Index → QueryBad → Type 0
 RefusesQuery q indexes why = (why ≡ rule.Memory) ⊎ (broken_query_rule q indexes ≡ Some why)
-
--- the same of all of some queries
-abbrev pub near_fit_of_all : List Query → NearFit
-near_fit_of_all qs =
-    record { may_be_near = list_all (λ q. (near_fit q).may_be_near) qs; fits = list_all (λ q. (near_fit q).fits) qs }

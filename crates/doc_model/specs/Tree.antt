@@ -15,7 +15,9 @@ abbrev pub size_step : Node-F ℕ → ℕ
 size_step (Node-F.Text text) = 1 + length text
 size_step (Node-F.Items items) = 1 + sum items
 size_step (Node-F.Members members) = 1 + sum_by (λ member. length member.0 + member.1) members
-size_step _ = 1
+size_step Node-F.Null = 1
+size_step (Node-F.Bool b) = 1
+size_step (Node-F.Num n) = 1
 
 -- the size of a tree
 abbrev pub size : Node → ℕ
@@ -30,7 +32,10 @@ greatest (n ∷ ns) = max n (greatest ns)
 abbrev pub depth_step : Node-F ℕ → ℕ
 depth_step (Node-F.Items items) = 1 + greatest items
 depth_step (Node-F.Members members) = 1 + greatest (map (λ member. member.1) members)
-depth_step _ = 0
+depth_step Node-F.Null = 0
+depth_step (Node-F.Bool b) = 0
+depth_step (Node-F.Num n) = 0
+depth_step (Node-F.Text text) = 0
 
 -- how many arrays and objects enclose each other
 abbrev pub depth : Node → ℕ
@@ -40,7 +45,7 @@ depth = fold-Node ℕ depth_step
 abbrev pub is_among : List (List ℕ) → List ℕ → Bool
 is_among names name = list_any (bytes_eq name) names
 
--- no name stands twice
+-- no name occurs twice
 abbrev pub is_distinct : List (List ℕ) → Bool
 is_distinct [] = true
 is_distinct (name ∷ names) = not (is_among names name) && is_distinct names
@@ -49,7 +54,10 @@ is_distinct (name ∷ names) = not (is_among names name) && is_distinct names
 abbrev pub names_step : Node-F Bool → Bool
 names_step (Node-F.Items items) = list_all (λ item. item) items
 names_step (Node-F.Members members) = is_distinct (map (λ member. member.0) members) && list_all (λ member. member.1) members
-names_step _ = true
+names_step Node-F.Null = true
+names_step (Node-F.Bool b) = true
+names_step (Node-F.Num n) = true
+names_step (Node-F.Text text) = true
 
 -- no object has two members of one name
 abbrev pub has_distinct_names : Node → Bool

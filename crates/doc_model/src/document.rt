@@ -3,8 +3,9 @@ ghost use Rattle.doc_model.specs.Documents.{IsDocument, IsRefused, document_of, 
 ghost use Rattle.doc_model.specs.Tree.{Leaves};
 
 use crate::depth::is_within;
+use crate::limits::{MAX_DOCUMENT_DEPTH, MAX_SIZE};
 use crate::names::has_distinct_names;
-use crate::size::{spend, spend_texts};
+use crate::size::{charge, charge_texts};
 use crate::uri::{is_collections, is_uri};
 use crate::{DocRefusal, Node, Text, Texts};
 use std::alloc::{AllocError, Global};
@@ -31,10 +32,6 @@ impl Model for Document {
     ghost invariant = { λ d. IsSized (document_of d.uri d.collections d.root) d.size };
 }
 
-const MOST_DEPTH: u32 = 128;
-
-const MOST_SIZE: u64 = 16_777_216;
-
 impl Document {
     /// A document of these parts, which are refused at the first rule that they break. It sorts nothing.
     ///
@@ -56,7 +53,7 @@ impl Document {
         if !is_collections(collections.as_slice()) {
             return Err(DocRefusal::Collections);
         }
-        if !is_within(&root, MOST_DEPTH) {
+        if !is_within(&root, MAX_DOCUMENT_DEPTH) {
             return Err(DocRefusal::Depth);
         }
         let Ok(distinct) = has_distinct_names(alloc, &root) else {
@@ -65,12 +62,12 @@ impl Document {
         if !distinct {
             return Err(DocRefusal::Names);
         }
-        match spend_document(&uri, &collections, &root) {
+        match charge_document(&uri, &collections, &root) {
             Some(left) => Ok(Document {
                 uri,
                 collections,
                 root,
-                size: MOST_SIZE - left,
+                size: MAX_SIZE - left,
             }),
             None => Err(DocRefusal::Size),
         }
@@ -119,10 +116,10 @@ impl Document {
 }
 
 /// What is left of the greatest size. `None` says that the parts are larger.
-fn spend_document(uri: &Text, collections: &Texts, root: &Node) -> Option<u64>
-    ensures { Leaves MOST_SIZE (document_size (document_of uri.now collections.now root.now)) result }
+fn charge_document(uri: &Text, collections: &Texts, root: &Node) -> Option<u64>
+    ensures { Leaves MAX_SIZE (document_size (document_of uri.now collections.now root.now)) result }
 {
-    let left = MOST_SIZE.checked_sub(uri.as_str().len() as u64)?;
-    let left = spend_texts(collections.as_slice(), left)?;
-    spend(root, left)
+    let left = MAX_SIZE.checked_sub(uri.as_str().len() as u64)?;
+    let left = charge_texts(collections.as_slice(), left)?;
+    charge(root, left)
 }

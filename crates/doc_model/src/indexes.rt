@@ -2,6 +2,7 @@ ghost use Rattle.std.specs.Prelude.{◌≡◌, [], IfOk, IsSome, IfSome, ◌↔�
 ghost use Rattle.doc_model.specs.Queries.{is_indexed, is_index_list, no_index_twice};
 
 use crate::Text;
+use crate::limits::MAX_INDEXES;
 use sqlite_items::Items;
 use std::alloc::{AllocError, Global};
 use std::marker::Model;
@@ -36,8 +37,6 @@ impl Model for Indexes {
     ghost invariant = { λ x. IsTrue (is_index_list x.list) };
 }
 
-const MOST_INDEXES: usize = 64;
-
 impl Indexes {
     /// No range index.
     pub fn none(alloc: Global) -> Indexes
@@ -48,12 +47,12 @@ impl Indexes {
         }
     }
 
-    /// These range indexes. `None` says that there are more than 64, or that a pair stands twice.
+    /// These range indexes. `None` says that there are more than 64, or that a pair is there twice.
     pub fn new(list: Vec<(Text, Kind)>) -> Option<Indexes>
         ensures kept { IfSome result (λ x. x ≡ list.items) }
         ensures some { IsSome result ↔ IsTrue (is_index_list list.items) }
     {
-        if list.len() <= MOST_INDEXES && is_distinct(&list) {
+        if list.len() <= MAX_INDEXES && is_distinct(&list) {
             Some(Indexes {
                 list: Items::from_vec(list),
             })

@@ -7,6 +7,7 @@ mod depth;
 mod document;
 mod entry;
 mod indexes;
+mod limits;
 mod names;
 mod node;
 mod op;
@@ -25,6 +26,10 @@ pub use dec::Dec;
 pub use document::Document;
 pub use entry::Entry;
 pub use indexes::{Indexes, Kind};
+pub use limits::{
+    MAX_COLLECTIONS, MAX_DOCUMENT_DEPTH, MAX_INDEXES, MAX_OPERATIONS, MAX_QUERY_DEPTH,
+    MAX_QUERY_ITEMS, MAX_SIZE,
+};
 pub use node::{Members, Node, Nodes};
 pub use op::Op;
 pub use ops::Ops;

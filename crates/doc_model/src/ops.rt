@@ -3,6 +3,7 @@ ghost use Rattle.std.specs.List.{list_all};
 ghost use Rattle.doc_model.specs.Operations.{AreOps, broken_ops_rule, op_size, removes_uri};
 ghost use Rattle.doc_model.specs.Tree.{Leaves};
 
+use crate::limits::{MAX_OPERATIONS, MAX_SIZE};
 use crate::{Op, OpsRefusal};
 use std::alloc::{AllocError, Global};
 use std::marker::Model;
@@ -30,10 +31,6 @@ impl Model for Ops {
     ghost invariant = { λ o. AreOps o.list.items };
 }
 
-const MOST_OPERATIONS: usize = 1000;
-
-const MOST_SIZE: u64 = 16_777_216;
-
 impl Ops {
     /// The operations of a commit, in order. It takes no memory; its time is in proportion to their number.
     pub fn new(list: Vec<Op>) -> Result<Ops, OpsRefusal>
@@ -43,10 +40,10 @@ impl Ops {
         ensures refused { IfErr result (λ why. broken_ops_rule list.items ≡ Some why) }
     {
         let n = list.len();
-        if n == 0 || n > MOST_OPERATIONS {
+        if n == 0 || n > MAX_OPERATIONS {
             return Err(OpsRefusal::Count { n: n as u64 });
         }
-        match spend_ops(&list, MOST_SIZE) {
+        match charge_ops(&list, MAX_SIZE) {
             Some(_) => Ok(Ops { list }),
             None => Err(OpsRefusal::Size),
         }
@@ -87,7 +84,7 @@ fn size_of(op: &Op) -> u64
     }
 }
 
-fn spend_ops(list: &[Op], left: u64) -> Option<u64>
+fn charge_ops(list: &[Op], left: u64) -> Option<u64>
     ensures { Leaves left (sum_by op_size list.now) result }
 {
     let mut rest = left;

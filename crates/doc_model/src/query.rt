@@ -39,12 +39,12 @@ pub enum Query {
         positive: Boxed<Query>,
         negative: Boxed<Query>,
     },
-    /// Some text stands in the document.
+    /// Some text occurs in the document.
     Word {
         texts: Texts,
         case: Case,
     },
-    /// Some text stands in a text value of one of the named properties.
+    /// Some text occurs in a text value of one of the named properties.
     PropWord {
         names: Texts,
         texts: Texts,

@@ -26,7 +26,7 @@ pub enum OpsRefusal {
     Size,
 }
 
-/// Why a query isn't answered: the first rule that it breaks, or want of memory.
+/// Why a query is refused: the first rule that it breaks, or want of memory.
 #[derive(Debug, Drop)]
 pub enum QueryBad {
     /// More than `limit` queries lie within each other, the outermost counted.

@@ -3,6 +3,7 @@ ghost use Rattle.doc_model.specs.Uri.{is_name, is_uri, is_uri_byte, is_rising, i
 ghost use Rattle.std.specs.List.{list_all};
 
 use crate::Text;
+use crate::limits::MAX_COLLECTIONS;
 
 fn is_name(text: &str) -> bool
     ensures { result ≡ is_name text.now }
@@ -48,5 +49,5 @@ fn are_names(names: &[Text]) -> bool
 pub fn is_collections(names: &[Text]) -> bool
     ensures { result ≡ is_collections names.now }
 {
-    names.len() <= 64 && are_names(names) && is_rising(names)
+    names.len() <= MAX_COLLECTIONS && are_names(names) && is_rising(names)
 }

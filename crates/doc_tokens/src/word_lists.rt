@@ -32,10 +32,10 @@ pub fn folded_words(alloc: Global, text: &str) -> Result<Texts, AllocError>
 }
 
 /// The words of a text in the form in which they are compared: case folded where case is alike, else as they are written.
-pub fn words_seen(alloc: Global, blind: bool, text: &str) -> Result<Texts, AllocError>
-    ensures { IfOk result (λ ws. ws ≡ words_seen blind text.now) }
+pub fn words_seen(alloc: Global, any_case: bool, text: &str) -> Result<Texts, AllocError>
+    ensures { IfOk result (λ ws. ws ≡ words_seen any_case text.now) }
 {
-    if blind {
+    if any_case {
         folded_words(alloc, text)
     } else {
         plain_words(alloc, text)

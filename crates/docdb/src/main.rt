@@ -12,7 +12,7 @@ use std::{env, io};
 const WORDS: &str =
     "docdb: the words are 'init DIR [--range NAME:TYPE].. [--save-at N] [--merge-at K]', 'run DIR' or 'check DIR'";
 
-/// The words behind the program's name. Where one isn't UTF-8 there are none, since no command fits.
+/// The words after the program's name; none where one isn't UTF-8, since no command fits then.
 fn words(rt: &HostRuntime, alloc: Global) -> Result<Vec<String>, AllocError> {
     match args(rt, alloc) {
         Ok(words) => Ok(words),
@@ -21,7 +21,7 @@ fn words(rt: &HostRuntime, alloc: Global) -> Result<Vec<String>, AllocError> {
     }
 }
 
-/// The words behind the program's name. One that isn't UTF-8 is an error.
+/// The words after the program's name. One that isn't UTF-8 is an error.
 fn args(rt: &HostRuntime, alloc: Global) -> io::Result<Vec<String>> {
     let mut words = Vec::new(alloc);
     for word in env::args(rt)?.skip(1) {

@@ -12,7 +12,7 @@ use Rattle.doc_model.specs.Tree.{depth, has_distinct_names}
 use Rattle.doc_model.specs.Uri.{is_collections, is_uri}
 use Rattle.doc_model.specs.declared.refusal.DocRefusal.{DocRefusal}
 use Rattle.doc_model.specs.declared.refusal.DocRefusal.TheVariants as rule
-use Rattle.docs_format.specs.Answers.{Answers}
+use Rattle.docs_format.specs.Answers.{Decodes}
 use Rattle.docs_format.specs.Spelling as spell
 use Rattle.docs_format.specs.Reading.{document_at, document_of, sized_document_at, whole_of}
 use Rattle.docs_format.specs.declared.fault.DocBytesBad.{DocBytesBad}
@@ -91,6 +91,6 @@ whole_again bytes d s =
     rw (read, small) refl
 
 pub is_only : (bytes : List ℕ) (r : Result PlainDocument DocBytesBad) (d : PlainDocument) → spell.Spells bytes d
-    → Answers r (document_of bytes) → Answers r (Ok d)
+    → Decodes r (document_of bytes) → Decodes r (Ok d)
 is_only bytes r d s given =
-    subst (λ (read : Result PlainDocument ℕ). Answers r read) (whole_again bytes d s) given
+    subst (λ (read : Result PlainDocument ℕ). Decodes r read) (whole_again bytes d s) given

@@ -10,8 +10,8 @@ use Rattle.std.proofs.lemmas.List.{take_at, drop_at, take-append-drop, length-ap
 use Rattle.byteorder.specs.Endian.{big_number, big_bytes}
 use Rattle.byteorder.specs.Numbers.{big_from-lt, big_from-take, big_number-reads_back, length-bytes_high_first}
 use Rattle.doc_model.specs.Uri.{is_uri}
-use Rattle.docs_format.specs.declared.fault.Fault.{Fault}
-use Rattle.docs_format.specs.declared.fault.Fault.TheVariants.{Early, Misfit}
+use Rattle.docs_format.specs.declared.fault.FieldError.{FieldError}
+use Rattle.docs_format.specs.declared.fault.FieldError.TheVariants.{Truncated, Invalid}
 use Rattle.docs_format.specs.Spelling.{count, number, text, is_decimal}
 use Rattle.docs_format.specs.Reading.{◌>>=◌, Read, keeping, wide_at, count_at, units_at, number_at, bytes_at}
 use Rattle.docs_format.specs.Reading.{text_at, uri_at}
@@ -19,21 +19,21 @@ use Rattle.docs_format.proofs.Digits.{IsBytes, IsBytes-drop, IsBytes-take, digit
 use Rattle.docs_format.proofs.Keeping.{kept}
 
 -- the value of a step that didn't fail
-pub bind_ok : {X Y : Type 0} (r : Result X Fault) (f : X → Result Y Fault) (y : Y) → (r >>= f) ≡ Ok y
+pub bind_ok : {X Y : Type 0} (r : Result X FieldError) (f : X → Result Y FieldError) (y : Y) → (r >>= f) ≡ Ok y
     → (x : X) × (r ≡ Ok x) × (f x ≡ Ok y)
 bind_ok (Ok x) f y e = (x, refl, e)
 bind_ok (Err fault) f y e = absurd cc
 
 -- a test that didn't fail
-pub guard_ok : {X : Type 0} (b : Bool) (fault : Fault) (x y : X) → cond b (Err fault) (Ok x) ≡ Ok y → (b ≡ false) × (x ≡ y)
+pub guard_ok : {X : Type 0} (b : Bool) (fault : FieldError) (x y : X) → cond b (Err fault) (Ok x) ≡ Ok y → (b ≡ false) × (x ≡ y)
 guard_ok true fault x y e = absurd cc
 guard_ok false fault x y e = (refl, cc)
 
-pub rule_ok : {X : Type 0} (b : Bool) (fault : Fault) (x y : X) → cond b (Ok x) (Err fault) ≡ Ok y → (b ≡ true) × (x ≡ y)
+pub rule_ok : {X : Type 0} (b : Bool) (fault : FieldError) (x y : X) → cond b (Ok x) (Err fault) ≡ Ok y → (b ≡ true) × (x ≡ y)
 rule_ok true fault x y e = (refl, cc)
 rule_ok false fault x y e = absurd cc
 
-abbrev done : {X : Type 0} → X → Result X Fault
+abbrev done : {X : Type 0} → X → Result X FieldError
 done x = Ok x
 
 pub ok_is : {X : Type 0} (x y : X) → done x ≡ done y → x ≡ y
@@ -42,8 +42,8 @@ ok_is x y e = cc
 pub kept_ok : {X : Type 0} (rule : X → Bool) (field_at : List ℕ → Read X) (bytes : List ℕ) (x : X × List ℕ)
     → keeping rule field_at bytes ≡ Ok x → (field_at bytes ≡ Ok x) × (rule x.0 ≡ true)
 kept_ok rule field_at bytes x e =
-    let a = bind_ok (field_at bytes) (λ f. cond (rule f.0) (Ok f) (Err (Misfit (length bytes)))) x e in
-    let b = rule_ok (rule a.0.0) (Misfit (length bytes)) a.0 x a.2 in
+    let a = bind_ok (field_at bytes) (λ f. cond (rule f.0) (Ok f) (Err (Invalid (length bytes)))) x e in
+    let b = rule_ok (rule a.0.0) (Invalid (length bytes)) a.0 x a.2 in
     subst (λ y. (field_at bytes ≡ Ok y) × (rule y.0 ≡ true)) b.1 (a.1, b.0)
 
 -- what a reader took from the front
@@ -61,7 +61,7 @@ pub wide_takes : (width : ℕ) (bytes : List ℕ) (x : ℕ × List ℕ) → IsBy
     → Takes bytes (big_bytes width x.0) x.1 × (x.0 < 256 ^ width)
 unfolding wide_at
 wide_takes width bytes x fits e =
-    let g = guard_ok (ltb (length bytes) width) (Early (length bytes)) (big_number width bytes, drop width bytes) x e in
+    let g = guard_ok (ltb (length bytes) width) (Truncated (length bytes)) (big_number width bytes, drop width bytes) x e in
     let long : width ≤ length bytes = ltb-false (length bytes) width g.0 in
     let front : big_bytes width (big_number width bytes) ≡ take width bytes =
     ap (big_bytes width) (sym (big_from-take 0 width width bytes (omega arith)))
@@ -101,8 +101,8 @@ unfolding bytes_at
 bytes_take bytes x fits e =
     let a =
     bind_ok (count_at bytes)
-    (λ len. cond (ltb (length len.1) len.0) (Err (Early (length bytes))) (Ok (take len.0 len.1, drop len.0 len.1))) x e in
-    let g = guard_ok (ltb (length a.0.1) a.0.0) (Early (length bytes)) (take a.0.0 a.0.1, drop a.0.0 a.0.1) x a.2 in
+    (λ len. cond (ltb (length len.1) len.0) (Err (Truncated (length bytes))) (Ok (take len.0 len.1, drop len.0 len.1))) x e in
+    let g = guard_ok (ltb (length a.0.1) a.0.0) (Truncated (length bytes)) (take a.0.0 a.0.1, drop a.0.0 a.0.1) x a.2 in
     let first = count_takes bytes a.0 fits a.1 in
     let long : a.0.0 ≤ length a.0.1 = ltb-false (length a.0.1) a.0.0 g.0 in
     let len : length (take a.0.0 a.0.1) ≡ a.0.0 = length-take-le a.0.0 a.0.1 long in

@@ -10,7 +10,7 @@ use Rattle.std.proofs.lemmas.List.{drop-append-le, length-append, length-drop, t
 use Rattle.byteorder.specs.Endian.{big_number}
 use Rattle.byteorder.specs.Numbers.{big_from-take}
 use Rattle.doc_model.specs.Uri.{is_uri}
-use Rattle.docs_format.specs.declared.fault.Fault.TheVariants.{Early, Misfit}
+use Rattle.docs_format.specs.declared.fault.FieldError.TheVariants.{Truncated, Invalid}
 use Rattle.docs_format.specs.Spelling.{is_decimal}
 use Rattle.docs_format.specs.Reading.{◌>>=◌, Read, bytes_at, collection_at, collections_at, count_at}
 use Rattle.docs_format.specs.Reading.{is_next}
@@ -22,11 +22,11 @@ abbrev pub Within : {X : Type 0} → ℕ → Read X → Type 0
 Within len (Ok x) = length x.1 ≤ len
 Within len (Err fault) = left_of fault ≤ len
 
--- what was read is read with more bytes behind, and a field that doesn't fit stays where it is
+-- what was read is read with more bytes behind, and an invalid field keeps its place
 abbrev pub Stays : {X : Type 0} → List ℕ → Read X → Read X → Type 0
 Stays more (Ok x) longer = longer ≡ Ok (x.0, x.1 ++ more)
-Stays more (Err (Early left)) longer = Unit {0}
-Stays more (Err (Misfit left)) longer = longer ≡ Err (Misfit (left + length more))
+Stays more (Err (Truncated left)) longer = Unit {0}
+Stays more (Err (Invalid left)) longer = longer ≡ Err (Invalid (left + length more))
 
 -- what so many bytes give, and what they give with more behind
 pub record Forward {X : Type 0} (len : ℕ) (more : List ℕ) (short longer : Read X) : Type 0 where
@@ -40,16 +40,16 @@ gives : {X : Type 0} (len : ℕ) (more : List ℕ) (short longer : Read X) (x : 
 gives len more short longer x rest s l h =
     subst (λ r. Forward len more r longer) (sym s) (record { within = h; stays = l })
 
-pub ends_early : {X : Type 0} (len left : ℕ) (more : List ℕ) (short longer : Read X) → short ≡ Err (Early left)
+pub ends_early : {X : Type 0} (len left : ℕ) (more : List ℕ) (short longer : Read X) → short ≡ Err (Truncated left)
     → left ≤ len → Forward len more short longer
 ends_early len left more short longer s le =
     subst (λ r. Forward len more r longer) (sym s) (record { within = le; stays = tt })
 
-pub refuses : {X : Type 0} (bytes more : List ℕ) (short longer : Read X) → short ≡ Err (Misfit (length bytes))
-    → longer ≡ Err (Misfit (length (bytes ++ more))) → Forward (length bytes) more short longer
+pub refuses : {X : Type 0} (bytes more : List ℕ) (short longer : Read X) → short ≡ Err (Invalid (length bytes))
+    → longer ≡ Err (Invalid (length (bytes ++ more))) → Forward (length bytes) more short longer
 refuses bytes more short longer s l =
     subst (λ r. Forward (length bytes) more r longer) (sym s)
-    (record { within = omega arith; stays = l ∙ ap (λ n. Err (Misfit n)) (length-append bytes more) })
+    (record { within = omega arith; stays = l ∙ ap (λ n. Err (Invalid n)) (length-append bytes more) })
 
 pub wider : {X : Type 0} (n m : ℕ) (more : List ℕ) (short longer : Read X) → n ≤ m
     → Forward n more short longer → Forward m more short longer
@@ -63,8 +63,8 @@ step_forward : {X Y : Type 0} (len : ℕ) (more : List ℕ) (short longer : Read
     → Forward len more (short >>= f) (longer >>= g)
 step_forward len more (Ok x) longer f g a each =
     subst (λ l. Forward len more (f x) (l >>= g)) (sym a.stays) (each x.0 x.1 a.within)
-step_forward len more (Err (Early left)) longer f g a each = record { within = a.within; stays = tt }
-step_forward len more (Err (Misfit left)) longer f g a each =
+step_forward len more (Err (Truncated left)) longer f g a each = record { within = a.within; stays = tt }
+step_forward len more (Err (Invalid left)) longer f g a each =
     record { within = a.within; stays = ap (λ l. l >>= g) a.stays }
 
 pub chosen_forward : {X : Type 0} (b : Bool) (len : ℕ) (more : List ℕ) (s t l m : Read X)
@@ -87,13 +87,13 @@ then_forward more read f bytes a each =
 pub keeping_forward : {X : Type 0} (more : List ℕ) (rule : X → Bool) (field_at : List ℕ → Read X) (bytes : List ℕ)
     → IsForward more field_at bytes → IsForward more (keeping rule field_at) bytes
 keeping_forward {X = X} more rule field_at bytes a =
-    let judged : List ℕ → X × List ℕ → Read X = λ all x. cond (rule x.0) (Ok x) (Err (Misfit (length all))) in
+    let judged : List ℕ → X × List ℕ → Read X = λ all x. cond (rule x.0) (Ok x) (Err (Invalid (length all))) in
     step_forward (length bytes) more (field_at bytes) (field_at (bytes ++ more)) (judged bytes)
     (judged (bytes ++ more)) a
     (λ x rest le. chosen_forward (rule x) (length bytes) more
-    (Ok (x, rest)) (Err (Misfit (length bytes))) (Ok (x, rest ++ more)) (Err (Misfit (length (bytes ++ more))))
+    (Ok (x, rest)) (Err (Invalid (length bytes))) (Ok (x, rest ++ more)) (Err (Invalid (length (bytes ++ more))))
     (gives (length bytes) more (Ok (x, rest)) (Ok (x, rest ++ more)) x rest refl refl le)
-    (refuses bytes more (Err (Misfit (length bytes))) (Err (Misfit (length (bytes ++ more)))) refl refl))
+    (refuses bytes more (Err (Invalid (length bytes))) (Err (Invalid (length (bytes ++ more)))) refl refl))
 
 -- a value made of what a step read
 pub made_forward : {X Y : Type 0} (more : List ℕ) (make : X → Y) (x : X) (rest : List ℕ)
@@ -103,7 +103,7 @@ made_forward more make x rest =
 
 -- ---- fields
 
-wide_short : (width : ℕ) (bytes : List ℕ) → length bytes < width → wide_at width bytes ≡ Err (Early (length bytes))
+wide_short : (width : ℕ) (bytes : List ℕ) → length bytes < width → wide_at width bytes ≡ Err (Truncated (length bytes))
 unfolding wide_at
 wide_short width bytes lt =
     let short : nat_lt (length bytes) width ≡ true = lt-ltb (length bytes) width lt in
@@ -140,7 +140,7 @@ wide_forward width more bytes =
 
 pub first_forward : (more bytes : List ℕ) → IsForward more kind_at bytes
 unfolding kind_at
-first_forward more [] = ends_early 0 0 more (Err (Early 0)) (kind_at more) refl (omega arith)
+first_forward more [] = ends_early 0 0 more (Err (Truncated 0)) (kind_at more) refl (omega arith)
 first_forward more (k ∷ rest) =
     gives (suc (length rest)) more (Ok (k, rest)) (Ok (k, rest ++ more)) k rest refl refl (omega arith)
 
@@ -160,7 +160,7 @@ number_forward more bytes = keeping_forward more is_decimal units_at bytes (unit
 
 -- so many bytes of the rest, of a field with so many bytes from its first byte on
 cut_at : ℕ → ℕ → List ℕ → Read (List ℕ)
-cut_at len n rest = cond (nat_lt (length rest) n) (Err (Early len)) (Ok (take n rest, drop n rest))
+cut_at len n rest = cond (nat_lt (length rest) n) (Err (Truncated len)) (Ok (take n rest, drop n rest))
 
 cut_forward : (len long_len n : ℕ) (more rest : List ℕ) → length rest ≤ len
     → Forward len more (cut_at len n rest) (cut_at long_len n (rest ++ more))

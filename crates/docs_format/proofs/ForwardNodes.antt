@@ -5,7 +5,7 @@ use Rattle.doc_model.specs.Documents.{PlainDocument, document_size}
 use Rattle.doc_model.specs.Tree.{is_among}
 use Rattle.doc_model.specs.declared.node.Node.{Node}
 use Rattle.doc_model.specs.declared.node.Node.TheVariants as node
-use Rattle.docs_format.specs.declared.fault.Fault.TheVariants.{Early, Misfit}
+use Rattle.docs_format.specs.declared.fault.FieldError.TheVariants.{Truncated, Invalid}
 use Rattle.docs_format.specs.Reading.{◌>>=◌, Read, collections_at, count_at, document_at, items_at, kind_at, list_at}
 use Rattle.docs_format.specs.Reading.{member_at, members_at, name_at, names, node_at, node_of, number_at, text_at}
 use Rattle.docs_format.specs.Reading.{sized_document_at, uri_at}
@@ -72,9 +72,9 @@ kind_forward array object long_array long_object k rest more a o =
     wider (length rest) len more _ _ (omega arith)
     (then_forward more text_at (λ t. Ok (node.Text t.0, t.1)) rest (text_forward more rest)
     (λ t behind. made_forward more node.Text t behind)) in
-    let unknown : Forward len more (let r : Read Node = Err (Misfit (length (k ∷ rest))) in r)
-    (Err (Misfit (length (k ∷ (rest ++ more))))) =
-    refuses (k ∷ rest) more (Err (Misfit (length (k ∷ rest)))) (Err (Misfit (length (k ∷ (rest ++ more))))) refl refl in
+    let unknown : Forward len more (let r : Read Node = Err (Invalid (length (k ∷ rest))) in r)
+    (Err (Invalid (length (k ∷ (rest ++ more))))) =
+    refuses (k ∷ rest) more (Err (Invalid (length (k ∷ rest)))) (Err (Invalid (length (k ∷ (rest ++ more))))) refl refl in
     chosen_forward (k == 0) len more _ _ _ _ (plain node.Null)
     (chosen_forward (k == 1) len more _ _ _ _ (plain (node.Bool false))
     (chosen_forward (k == 2) len more _ _ _ _ (plain (node.Bool true))
@@ -84,13 +84,13 @@ kind_forward array object long_array long_object k rest more a o =
 
 node_forward : (depth : ℕ) (more bytes : List ℕ) → IsForward more (node_at depth) bytes
 unfolding node_at node_of kind_at
-node_forward zero more [] = ends_early 0 0 more (Err (Early 0)) (node_at zero more) refl (omega arith)
-node_forward (suc depth) more [] = ends_early 0 0 more (Err (Early 0)) (node_at (suc depth) more) refl (omega arith)
+node_forward zero more [] = ends_early 0 0 more (Err (Truncated 0)) (node_at zero more) refl (omega arith)
+node_forward (suc depth) more [] = ends_early 0 0 more (Err (Truncated 0)) (node_at (suc depth) more) refl (omega arith)
 node_forward zero more (k ∷ rest) =
-    let out : List ℕ → List ℕ → Read Node = λ all r. Err (Misfit (length all)) in
+    let out : List ℕ → List ℕ → Read Node = λ all r. Err (Invalid (length all)) in
     let long : List ℕ = k ∷ (rest ++ more) in
     let deep : Forward (suc (length rest)) more (out (k ∷ rest) rest) (out long (rest ++ more)) =
-    refuses (k ∷ rest) more (Err (Misfit (length (k ∷ rest)))) (Err (Misfit (length long))) refl refl in
+    refuses (k ∷ rest) more (Err (Invalid (length (k ∷ rest)))) (Err (Invalid (length long))) refl refl in
     kind_forward (out (k ∷ rest)) (out (k ∷ rest)) (out long) (out long) k rest more deep deep
 node_forward (suc depth) more (k ∷ rest) =
     let array : List ℕ → Read Node = items_at (node_at depth) in

@@ -7,9 +7,9 @@ use Rattle.std.proofs.lemmas.Bool.{eqb-true, not-false, not-true}
 use Rattle.std.proofs.lemmas.List.{append-nil, nil_from_length}
 use Rattle.doc_model.specs.Documents.{PlainDocument, broken_rule, document_size}
 use Rattle.docs_format.specs.declared.fault.DocBytesBad.{DocBytesBad}
-use Rattle.docs_format.specs.declared.fault.Fault.{Fault}
-use Rattle.docs_format.specs.declared.fault.Fault.TheVariants.{Misfit}
-use Rattle.docs_format.specs.Answers.{Answers}
+use Rattle.docs_format.specs.declared.fault.FieldError.{FieldError}
+use Rattle.docs_format.specs.declared.fault.FieldError.TheVariants.{Invalid}
+use Rattle.docs_format.specs.Answers.{Decodes}
 use Rattle.docs_format.specs.Laws.{WhatIsReadIsSpelled}
 use Rattle.docs_format.specs.Spelling as spell
 use Rattle.docs_format.specs.Reading.{document_at}
@@ -59,13 +59,13 @@ sized_takes bytes x fits e =
 pub whole_takes : (bytes : List ℕ) (d : PlainDocument) → IsBytes bytes → whole_of bytes ≡ Ok d → spell.Spells bytes d
 unfolding whole_of
 whole_takes bytes d fits e =
-    let sized : PlainDocument → Result PlainDocument Fault =
-    λ y. cond (nat_lt (2 ^ 24) (document_size y)) (Err (Misfit (length bytes))) (Ok y) in
-    let alone : PlainDocument × List ℕ → Result PlainDocument Fault =
-    λ y. cond (not (eqb (length y.1) 0)) (Err (Misfit (length y.1))) (sized y.0) in
+    let sized : PlainDocument → Result PlainDocument FieldError =
+    λ y. cond (nat_lt (2 ^ 24) (document_size y)) (Err (Invalid (length bytes))) (Ok y) in
+    let alone : PlainDocument × List ℕ → Result PlainDocument FieldError =
+    λ y. cond (not (eqb (length y.1) 0)) (Err (Invalid (length y.1))) (sized y.0) in
     let a = bind_ok (document_at bytes) alone d e in
-    let b = first_ok (not (eqb (length a.0.1) 0)) (Misfit (length a.0.1)) (sized a.0.0) d a.2 in
-    let c = guard_ok (nat_lt (2 ^ 24) (document_size a.0.0)) (Misfit (length bytes)) a.0.0 d b.1 in
+    let b = first_ok (not (eqb (length a.0.1) 0)) (Invalid (length a.0.1)) (sized a.0.0) d a.2 in
+    let c = guard_ok (nat_lt (2 ^ 24) (document_size a.0.0)) (Invalid (length bytes)) a.0.0 d b.1 in
     let t = document_takes bytes a.0 fits a.1 in
     let k = document_kept bytes a.0 a.1 in
     let whole : is_none (broken_rule a.0.0) ≡ true = rw (only_size a.0.0 k, c.0) refl in
@@ -79,16 +79,16 @@ whole_takes bytes d fits e =
       spelled = spelled;
     }
   where
-    first_ok : (b : Bool) (fault : Fault) (r : Result PlainDocument Fault) (d : PlainDocument)
+    first_ok : (b : Bool) (fault : FieldError) (r : Result PlainDocument FieldError) (d : PlainDocument)
         → cond b (Err fault) r ≡ Ok d → (b ≡ false) × (r ≡ Ok d)
     first_ok true fault r d e = absurd cc
     first_ok false fault r d e = (refl, e)
 
-unplaced : (len : ℕ) (r : Result PlainDocument Fault) (d : PlainDocument) → placed len r ≡ Ok d → r ≡ Ok d
+unplaced : (len : ℕ) (r : Result PlainDocument FieldError) (d : PlainDocument) → placed len r ≡ Ok d → r ≡ Ok d
 unplaced len (Ok x) d e = let same : x ≡ d = cc in ap Ok same
 unplaced len (Err fault) d e = absurd cc
 
 pub is_found : (bytes : List ℕ) (r : Result PlainDocument DocBytesBad) → IsBytes bytes
-    → Answers r (document_of bytes) → IfOk r (λ d. spell.Spells bytes d)
+    → Decodes r (document_of bytes) → IfOk r (λ d. spell.Spells bytes d)
 is_found bytes (Ok d) fits given = whole_takes bytes d fits (unplaced (length bytes) (whole_of bytes) d given)
 is_found bytes (Err why) fits given = tt

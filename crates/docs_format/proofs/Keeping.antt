@@ -8,7 +8,7 @@ use Rattle.std.proofs.lemmas.List.{take_all, length-drop}
 use Rattle.byteorder.specs.Endian.{big_number}
 use Rattle.std.specs.Str.{IsUtf8, is_utf8}
 use Rattle.std.proofs.lemmas.Str.{IsUtf8-from_is_utf8, is_utf8-from_IsUtf8}
-use Rattle.docs_format.specs.declared.fault.Fault.TheVariants.{Misfit}
+use Rattle.docs_format.specs.declared.fault.FieldError.TheVariants.{Invalid}
 use Rattle.docs_format.specs.Reading.{Read, keeping, text_at, bytes_at, units_at, wide_at}
 
 pub kept : {X : Type 0} (rule : X → Bool) (field_at : List ℕ → Read X) (bytes : List ℕ) (x : X × List ℕ)
@@ -16,7 +16,7 @@ pub kept : {X : Type 0} (rule : X → Bool) (field_at : List ℕ → Read X) (by
 kept rule field_at bytes x e holds = rw (e, holds) refl
 
 pub unkept : {X : Type 0} (rule : X → Bool) (field_at : List ℕ → Read X) (bytes : List ℕ) (x : X × List ℕ)
-    → field_at bytes ≡ Ok x → rule x.0 ≡ false → keeping rule field_at bytes ≡ Err (Misfit (length bytes))
+    → field_at bytes ≡ Ok x → rule x.0 ≡ false → keeping rule field_at bytes ≡ Err (Invalid (length bytes))
 unkept rule field_at bytes x e fails = rw (e, fails) refl
 
 not_utf8 : (bytes : List ℕ) → ¬ (IsUtf8 bytes) → is_utf8 bytes ≡ false
@@ -32,11 +32,11 @@ unfolding text_at
 text_kept bytes text rest e is = kept is_utf8 bytes_at bytes (text, rest) e (is_utf8-from_IsUtf8 text is)
 
 pub text_unkept : (bytes text rest : List ℕ) → bytes_at bytes ≡ Ok (text, rest) → ¬ (IsUtf8 text)
-    → text_at bytes ≡ Err (Misfit (length bytes))
+    → text_at bytes ≡ Err (Invalid (length bytes))
 unfolding text_at
 text_unkept bytes text rest e is_no = unkept is_utf8 bytes_at bytes (text, rest) e (not_utf8 text is_no)
 
--- as a read of sixteen bytes and a slice from there on answer it
+-- as a read of sixteen bytes and a slice from there on return it
 pub units_read : (bytes : List ℕ) (units : ℤ) → 16 ≤ length bytes → units ≡ cast_signed w128 (big_number 16 bytes)
     → units_at bytes ≡ Ok (units, take (length bytes - 16) (drop 16 bytes))
 unfolding units_at wide_at

@@ -5,8 +5,8 @@ use Rattle.std.specs.List.{flat_map, list_all}
 use Rattle.std.proofs.lemmas.Bool.{and_from}
 use Rattle.std.proofs.lemmas.List.{append-nil, length_push}
 use Rattle.std.proofs.lemmas.List.Concat.{flat_map-cons}
-use Rattle.docs_format.specs.declared.fault.Stop.{Stop}
-use Rattle.docs_format.specs.declared.fault.Stop.TheVariants as stop
+use Rattle.docs_format.specs.declared.fault.DecodeError.{DecodeError}
+use Rattle.docs_format.specs.declared.fault.DecodeError.TheVariants as stop
 use Rattle.docs_format.specs.Answers.{Stops}
 use Rattle.docs_format.specs.Reading.{Read, list_at}
 use Rattle.docs_format.proofs.Digits.{IsBytes}
@@ -25,7 +25,7 @@ goes_on item_at before count i bytes x rest total lt h so_far =
     rw (k, h) refl in
     sym one ∙ so_far
 
-pub stops : {X : Type 0} (why : Stop) (item_at : List X → List ℕ → Read X) (before : List X) (count i : ℕ)
+pub stops : {X : Type 0} (why : DecodeError) (item_at : List X → List ℕ → Read X) (before : List X) (count i : ℕ)
     (bytes : List ℕ) (total : Read (List X))
     → i < count → Stops why (item_at before bytes) → list_at item_at before (count - i) bytes ≡ total → Stops why total
 unfolding list_at

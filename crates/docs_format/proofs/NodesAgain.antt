@@ -33,7 +33,7 @@ pub record IsWritten (depths : ℕ) (n : Node) : Type 0 where
   pub names : has_distinct_names n ≡ true
   pub size : size n < 2 ^ 32
 
--- ---- what stands in an array or object
+-- ---- the content of an array or object
 
 -- children of an array: each keeps what the array keeps
 abbrev IsItem : ℕ → List Node → Node → Type 0

@@ -5,10 +5,10 @@ use Rattle.std.proofs.lemmas.Bool.{eqb-true, le-leb}
 use Rattle.std.proofs.lemmas.Bool.Decides.{nat_tests}
 use Rattle.doc_model.specs.declared.node.Node.{Node}
 use Rattle.doc_model.specs.declared.node.Node.TheVariants as node
-use Rattle.docs_format.specs.declared.fault.Fault.{Fault}
-use Rattle.docs_format.specs.declared.fault.Fault.TheVariants.{Misfit}
-use Rattle.docs_format.specs.declared.fault.Stop.{Stop}
-use Rattle.docs_format.specs.declared.fault.Stop.TheVariants as stop
+use Rattle.docs_format.specs.declared.fault.FieldError.{FieldError}
+use Rattle.docs_format.specs.declared.fault.FieldError.TheVariants.{Invalid}
+use Rattle.docs_format.specs.declared.fault.DecodeError.{DecodeError}
+use Rattle.docs_format.specs.declared.fault.DecodeError.TheVariants as stop
 use Rattle.docs_format.specs.Answers.{Stops}
 use Rattle.docs_format.specs.Reading.{◌>>=◌, Read, count_at, list_at, collection_at, collections_at, items_at, kind_at}
 use Rattle.docs_format.specs.Reading.{last_of, member_at, members_at, node_at, node_of, number_at, text_at}
@@ -33,12 +33,12 @@ pub members_are : (value_at : List ℕ → Read Node) (bytes : List ℕ) (n : �
 unfolding members_at
 members_are value_at bytes n rest e = rw e refl
 
-pub stops_then : {X Y : Type 0} (why : Stop) (first : Result X Fault) (f : X → Result Y Fault)
+pub stops_then : {X Y : Type 0} (why : DecodeError) (first : Result X FieldError) (f : X → Result Y FieldError)
     → Stops why first → Stops why (first >>= f)
 stops_then stop.Memory first f h = tt
 stops_then (stop.Bad fault) first f h = rw h refl
 
-pub stops_same : {X : Type 0} (why : Stop) (first second : Result X Fault) → second ≡ first → Stops why first
+pub stops_same : {X : Type 0} (why : DecodeError) (first second : Result X FieldError) → second ≡ first → Stops why first
     → Stops why second
 stops_same stop.Memory first second e h = tt
 stops_same (stop.Bad fault) first second e h = e ∙ h
@@ -53,7 +53,7 @@ last_of-push (first ∷ next ∷ names) name = last_of-push (next ∷ names) nam
 differs : (a b : ℕ) → b < a → (a == b) ≡ false
 differs a b h = grind (arith, nat_tests)
 
-pub kind_stops : (why : Stop) (depth : ℕ) (bytes : List ℕ) → Stops why (kind_at bytes) → Stops why (node_at depth bytes)
+pub kind_stops : (why : DecodeError) (depth : ℕ) (bytes : List ℕ) → Stops why (kind_at bytes) → Stops why (node_at depth bytes)
 unfolding node_at node_of
 kind_stops stop.Memory depth bytes h = tt
 kind_stops (stop.Bad fault) zero bytes h = rw h refl
@@ -98,16 +98,16 @@ module _ (bytes : List ℕ) (k : ℕ) (rest : List ℕ) (e : kind_at bytes ≡ O
   kind_members zero inner is deep = absurd (omega arith)
   kind_members (suc depth) inner is deep = let same : depth ≡ inner = omega arith in rw (e, is, same) refl
 
-  pub kind_deep : (depth : ℕ) → (k ≡ 5) ⊎ (k ≡ 6) → depth ≡ 0 → node_at depth bytes ≡ Err (Misfit (length bytes))
+  pub kind_deep : (depth : ℕ) → (k ≡ 5) ⊎ (k ≡ 6) → depth ≡ 0 → node_at depth bytes ≡ Err (Invalid (length bytes))
   unfolding node_at node_of
   kind_deep depth (inl is) none = rw (none, e, is) refl
   kind_deep depth (inr is) none = rw (none, e, is) refl
 
-  pub stops_deep : (why : Stop) (left depth : ℕ) → (k ≡ 5) ⊎ (k ≡ 6) → left ≡ length bytes
-      → (depth ≡ 0) × (why ≡ stop.Bad (Misfit left)) → Stops why (node_at depth bytes)
+  pub stops_deep : (why : DecodeError) (left depth : ℕ) → (k ≡ 5) ⊎ (k ≡ 6) → left ≡ length bytes
+      → (depth ≡ 0) × (why ≡ stop.Bad (Invalid left)) → Stops why (node_at depth bytes)
   stops_deep why left depth kind all d = rw (d.1, all) (kind_deep depth kind d.0)
 
-  pub kind_other : (depth : ℕ) → 7 ≤ k → node_at depth bytes ≡ Err (Misfit (length bytes))
+  pub kind_other : (depth : ℕ) → 7 ≤ k → node_at depth bytes ≡ Err (Invalid (length bytes))
   unfolding node_at node_of
   kind_other depth high =
       let f0 : (k == 0) ≡ false = differs k 0 (omega arith) in
@@ -117,7 +117,7 @@ module _ (bytes : List ℕ) (k : ℕ) (rest : List ℕ) (e : kind_at bytes ≡ O
       let f4 : (k == 4) ≡ false = differs k 4 (omega arith) in
       let f5 : (k == 5) ≡ false = differs k 5 (omega arith) in
       let f6 : (k == 6) ≡ false = differs k 6 (omega arith) in
-      elim depth as (λ d. node_at d bytes ≡ Err (Misfit (length bytes))) [
+      elim depth as (λ d. node_at d bytes ≡ Err (Invalid (length bytes))) [
         | zero ↦ rw (e, f0, f1, f2, f3, f4, f5, f6) refl
         | suc d ↦ rw (e, f0, f1, f2, f3, f4, f5, f6) refl
       ]

@@ -17,8 +17,8 @@ use Rattle.doc_model.specs.declared.node.Node.TheOpen.{Node-F}
 use Rattle.doc_model.specs.declared.node.Node.TheVariants as node
 use Rattle.doc_model.specs.declared.refusal.DocRefusal.{DocRefusal}
 use Rattle.doc_model.specs.declared.refusal.DocRefusal.TheVariants as rule
-use Rattle.docs_format.specs.declared.fault.Fault.{Fault}
-use Rattle.docs_format.specs.declared.fault.Fault.TheVariants.{Misfit}
+use Rattle.docs_format.specs.declared.fault.FieldError.{FieldError}
+use Rattle.docs_format.specs.declared.fault.FieldError.TheVariants.{Invalid}
 use Rattle.docs_format.specs.Reading.{◌>>=◌, Read, collection_at, collections_at, count_at, document_at, is_next}
 use Rattle.docs_format.specs.Reading.{items_at}
 use Rattle.docs_format.specs.Reading.{keeping, last_of, list_at, member_at, members_at, name_at, names, node_at}
@@ -177,7 +177,7 @@ number_kept depths n = is_flat depths (node.Num n) (flat (node.Num n) (Node-F.Nu
 text_kept : (depths : ℕ) (t : List ℕ) → IsKept depths (node.Text t)
 text_kept depths t = is_flat depths (node.Text t) (flat (node.Text t) (Node-F.Text t) (node.rolls-Text t) refl refl)
 
-refused : (depths : ℕ) (fault : Fault) (x : Node × List ℕ) → (let r : Read Node = Err fault in r) ≡ Ok x → IsKept depths x.0
+refused : (depths : ℕ) (fault : FieldError) (x : Node × List ℕ) → (let r : Read Node = Err fault in r) ≡ Ok x → IsKept depths x.0
 refused depths fault x e = absurd cc
 
 pub node_kept : (depths : ℕ) (bytes : List ℕ) (x : Node × List ℕ) → node_at depths bytes ≡ Ok x → IsKept depths x.0
@@ -185,10 +185,10 @@ unfolding node_at node_of kind_at
 node_kept zero [] x e = absurd cc
 node_kept (suc depths) [] x e = absurd cc
 node_kept zero (k ∷ rest) x e =
-    let out : List ℕ → Read Node = λ r. Err (Misfit (length (k ∷ rest))) in
+    let out : List ℕ → Read Node = λ r. Err (Invalid (length (k ∷ rest))) in
     by_kind out out k rest (λ j y. IsKept zero y.0) (null_kept zero) (bool_kept zero false) (bool_kept zero true)
     (λ n h. number_kept zero n.0) (λ t h. text_kept zero t.0)
-    (refused zero (Misfit (length (k ∷ rest)))) (refused zero (Misfit (length (k ∷ rest)))) x e
+    (refused zero (Invalid (length (k ∷ rest)))) (refused zero (Invalid (length (k ∷ rest)))) x e
 node_kept (suc depths) (k ∷ rest) x e =
     let all = node_kept depths in
     by_kind (items_at (node_at depths)) (members_at (node_at depths)) k rest (λ j y. IsKept (suc depths) y.0)
@@ -231,7 +231,7 @@ only_size d k =
     let shallow : nat_lt 128 (depth d.root) ≡ false = le-ltb 128 (depth d.root) k.depth in
     rw (k.uri, k.collections, shallow, k.names) refl
 
--- what was read is refused for its size alone
+-- what was read breaks no rule but that of its size
 pub refused_large : (bytes : List ℕ) (x : PlainDocument × List ℕ) (why : DocRefusal) → document_at bytes ≡ Ok x
     → IsRefused x.0 why → why ≢ rule.Memory → nat_lt (2 ^ 24) (document_size x.0) ≡ true
 refused_large bytes x why e (inl memory) other = absurd (other memory)

@@ -1,4 +1,4 @@
--- How large and how deep an array or object is, and whether its names are distinct, from what stands in it.
+-- How large and how deep an array or object is, and whether its names are distinct, from its content.
 use Rattle.std.proofs.Common.{◌≡◌, ℕ, Bool, true, ◌+◌, ◌&&◌, List, [], ◌∷◌, map, length, sum, sum_by, refl, sym, ap}
 use Rattle.std.proofs.Common.{◌∙◌}
 use Rattle.std.specs.List.{list_all}

@@ -8,8 +8,8 @@ use Rattle.std.proofs.lemmas.Bool.{and_from}
 use Rattle.doc_model.specs.Documents.{PlainDocument}
 use Rattle.doc_model.specs.declared.node.Node.{Node}
 use Rattle.doc_model.specs.declared.node.Node.TheVariants as node
-use Rattle.docs_format.specs.declared.fault.Fault.{Fault}
-use Rattle.docs_format.specs.declared.fault.Fault.TheVariants.{Misfit}
+use Rattle.docs_format.specs.declared.fault.FieldError.{FieldError}
+use Rattle.docs_format.specs.declared.fault.FieldError.TheVariants.{Invalid}
 use Rattle.docs_format.specs.Spelling as spell
 use Rattle.docs_format.specs.Reading.{◌>>=◌, Read, collection_at, collections_at, count_at, document_at}
 use Rattle.docs_format.specs.Reading.{is_next}
@@ -55,7 +55,7 @@ one_more : (kind : ℕ) (bytes text rest : List ℕ) → Takes bytes text rest �
 one_more kind bytes text rest t =
     record { parts = ap (λ (s : List ℕ). kind ∷ s) t.parts; rest_fits = t.rest_fits }
 
--- the spelling of a node is its kind and what stands in it
+-- the spelling of a node is its kind and its content
 is_read : (rest : List ℕ) (kind : ℕ) (n : Node) (text behind : List ℕ) → spell.node n ≡ kind ∷ text
     → Takes rest text behind → spell.has_values n ≡ true → IsRead rest kind (n, behind)
 is_read rest kind n text behind s t v =
@@ -152,7 +152,7 @@ module _ (array_at object_at : List ℕ → Read Node) (k : ℕ) (rest : List �
       (read_plain 2 (node.Bool true) (spell_bool true) (values_bool true))
       read_number read_text array_takes object_takes x e
 
-refused : (rest : List ℕ) (kind : ℕ) (fault : Fault) (x : Node × List ℕ)
+refused : (rest : List ℕ) (kind : ℕ) (fault : FieldError) (x : Node × List ℕ)
     → (let r : Read Node = Err fault in r) ≡ Ok x → IsRead rest kind x
 refused rest kind fault x e = absurd cc
 
@@ -165,8 +165,8 @@ unfolding node_at node_of kind_at
 node_takes zero [] x fits e = absurd cc
 node_takes (suc depth) [] x fits e = absurd cc
 node_takes zero (k ∷ rest) x fits e =
-    let out : List ℕ → Read Node = λ r. Err (Misfit (length (k ∷ rest))) in
-    let left : Fault = Misfit (length (k ∷ rest)) in
+    let out : List ℕ → Read Node = λ r. Err (Invalid (length (k ∷ rest))) in
+    let left : FieldError = Invalid (length (k ∷ rest)) in
     node_of_takes out out k rest (IsBytes-rest k rest fits) (refused rest 5 left) (refused rest 6 left) x e
 node_takes (suc depth) (k ∷ rest) x fits e =
     let tail = IsBytes-rest k rest fits in

@@ -1,4 +1,4 @@
--- What a tree says, from what stands in it.
+-- What a tree says, from its content.
 use Rattle.std.proofs.Common.{◌≡◌, ℕ, ℤ, Bool, true, cond, ◌+◌, ◌^◌, ◌<◌, ◌≤◌, ◌&&◌, get_or, List, [], ◌∷◌, ◌++◌}
 use Rattle.std.proofs.Common.{map, length, sum_by, refl, sym, ap, subst, ◌∙◌, arith}
 use Rattle.std.specs.List.{flat_map, list_all}

@@ -6,30 +6,30 @@ use Rattle.doc_model.specs.Tree.{depth, has_distinct_names}
 use Rattle.doc_model.specs.Uri.{is_collections, is_uri}
 use Rattle.docs_format.specs.Spelling.{Spells, are_values, document}
 
--- the bytes of a document that end early are refused at their length
+-- the bytes of a document that end early are invalid at their length
 abbrev pub BeginningsEndEarly : Type 0
 BeginningsEndEarly =
     (bytes more : List ℕ) (d : PlainDocument)
     → Spells (bytes ++ more) d → 0 < length more → document_of bytes ≡ Err (length bytes)
 
--- the bytes of a document that go on are refused at the first byte behind it
+-- bytes that go on after a document are invalid at the first byte after it
 abbrev pub MoreIsTooMany : Type 0
 MoreIsTooMany =
     (bytes more : List ℕ) (d : PlainDocument)
     → Spells bytes d → 0 < length more → document_of (bytes ++ more) ≡ Err (length bytes)
 
--- a field that doesn't fit is refused at its place whatever stands behind the bytes
+-- an invalid field keeps its place whatever bytes follow
 abbrev pub FaultsStay : Type 0
 FaultsStay =
     (bytes more : List ℕ) (place : ℕ)
     → document_of bytes ≡ Err place → 0 < place → place < length bytes → document_of (bytes ++ more) ≡ Err place
 
--- a document in front of other bytes is read, and the others are left
+-- reading a document leaves the bytes after it
 abbrev pub DocumentsAreReadAgain : Type 0
 DocumentsAreReadAgain =
     (bytes rest : List ℕ) (d : PlainDocument) → Spells bytes d → document_at (bytes ++ rest) ≡ Ok (d, rest)
 
--- bytes that spell a document, and others behind it; it keeps every rule but perhaps that of its size
+-- bytes that spell a document, and others after it; the document keeps every rule but perhaps that of its size
 pub record IsFront (bytes : List ℕ) (d : PlainDocument) (rest : List ℕ) : Type 0 where
   pub spelled : bytes ≡ document d ++ rest
   pub values : are_values d ≡ true
@@ -38,7 +38,7 @@ pub record IsFront (bytes : List ℕ) (d : PlainDocument) (rest : List ℕ) : Ty
   pub shallow : depth d.root ≤ 128
   pub names : has_distinct_names d.root ≡ true
 
--- bytes from which a document is read are its spelling and what is left
+-- bytes from which a document is read are its spelling and the bytes that are left
 abbrev pub WhatIsReadIsSpelled : Type 0
 WhatIsReadIsSpelled =
     (bytes rest : List ℕ) (d : PlainDocument)

@@ -1,4 +1,4 @@
--- Reading from left to right, as far as the first field that doesn't fit.
+-- Reading from left to right, up to the first invalid field.
 use Rattle.std.specs.Prelude.{ℕ, zero, suc, ℤ, ◌-◌, ◌^◌, Bool, true, false, ◌&&◌, not, nat_lt, nat_le, ◌==◌, List}
 use Rattle.std.specs.Prelude.{[], ◌∷◌, ◌++◌, map, length, take, drop, Result, Ok, Err, if◌then◌else◌}
 use Rattle.std.specs.Cmp.Lexicographic.{slice_cmp}
@@ -11,34 +11,34 @@ use Rattle.doc_model.specs.Tree.{is_among}
 use Rattle.doc_model.specs.Uri.{is_name, is_uri}
 use Rattle.doc_model.specs.declared.node.Node.{Node}
 use Rattle.doc_model.specs.declared.node.Node.TheVariants as node
-use Rattle.docs_format.specs.declared.fault.Fault.{Fault}
-use Rattle.docs_format.specs.declared.fault.Fault.TheVariants.{Early, Misfit}
+use Rattle.docs_format.specs.declared.fault.FieldError.{FieldError}
+use Rattle.docs_format.specs.declared.fault.FieldError.TheVariants.{Truncated, Invalid}
 use Rattle.docs_format.specs.Spelling.{is_decimal}
 
--- how many bytes are left from the first byte on of the field that the bytes cut, or that doesn't fit
-abbrev pub left_of : Fault → ℕ
-left_of (Early left) = left
-left_of (Misfit left) = left
+-- how many bytes are left from the first byte of the truncated or invalid field on
+abbrev pub left_of : FieldError → ℕ
+left_of (Truncated left) = left
+left_of (Invalid left) = left
 
--- the field at the front of some bytes and the bytes behind it, or its fault
+-- the first field of some bytes and the bytes after it, or its error
 abbrev pub Read : Type 0 → Type 0
-Read X = Result (X × List ℕ) Fault
+Read X = Result (X × List ℕ) FieldError
 
 infixl 10 ◌>>=◌
-abbrev pub ◌>>=◌ : {X Y : Type 0} → Result X Fault → (X → Result Y Fault) → Result Y Fault
+abbrev pub ◌>>=◌ : {X Y : Type 0} → Result X FieldError → (X → Result Y FieldError) → Result Y FieldError
 (Ok x) >>= f = f x
 (Err fault) >>= f = Err fault
 
--- a field that keeps a rule; if it doesn't, the fault is at its first byte
+-- a field that keeps a rule; one that breaks it is invalid at its first byte
 abbrev pub keeping : {X : Type 0} → (X → Bool) → (List ℕ → Read X) → List ℕ → Read X
 keeping rule field_at bytes = do
   field ← field_at bytes
-  if rule field.0 then Ok field else Err (Misfit (length bytes))
+  if rule field.0 then Ok field else Err (Invalid (length bytes))
 
--- a number in so many bytes, the highest first
+-- a number of `width` bytes, big-endian
 unfoldable pub wide_at : ℕ → List ℕ → Read ℕ
 wide_at width bytes =
-    if nat_lt (length bytes) width then Err (Early (length bytes))
+    if nat_lt (length bytes) width then Err (Truncated (length bytes))
     else Ok (big_number width bytes, drop width bytes)
 
 unfoldable pub count_at : List ℕ → Read ℕ
@@ -53,11 +53,11 @@ units_at bytes = do
 unfoldable pub number_at : List ℕ → Read ℤ
 number_at = keeping is_decimal units_at
 
--- a length, and as many bytes; where they end early, the field that they cut begins at its length
+-- a length, and as many bytes; bytes that end early truncate the field that begins at its length
 unfoldable pub bytes_at : List ℕ → Read (List ℕ)
 bytes_at bytes = do
   len ← count_at bytes
-  if nat_lt (length len.1) len.0 then Err (Early (length bytes)) else Ok (take len.0 len.1, drop len.0 len.1)
+  if nat_lt (length len.1) len.0 then Err (Truncated (length bytes)) else Ok (take len.0 len.1, drop len.0 len.1)
 
 unfoldable pub text_at : List ℕ → Read (List ℕ)
 text_at = keeping is_utf8 bytes_at
@@ -65,20 +65,20 @@ text_at = keeping is_utf8 bytes_at
 unfoldable pub uri_at : List ℕ → Read (List ℕ)
 uri_at = keeping is_uri text_at
 
--- so many values behind some that were read, each read in view of those before it
+-- n values after those that were read; how each is read may depend on those before it
 unfoldable pub list_at : {X : Type 0} → (List X → List ℕ → Read X) → List X → ℕ → List ℕ → Read (List X)
 list_at item_at before zero bytes = Ok (before, bytes)
 list_at item_at before (suc n) bytes = do
   item ← item_at before bytes
   list_at item_at (before ++ item.0 ∷ []) n item.1
 
--- the last name of some
+-- the last of some names, or the empty one
 abbrev pub last_of : List (List ℕ) → List ℕ
 last_of [] = []
 last_of (name ∷ []) = name
 last_of (name ∷ next ∷ names) = last_of (next ∷ names)
 
--- a name that may stand behind another one among the collections
+-- a collection's name that may follow `last`
 abbrev pub is_next : List ℕ → List ℕ → Bool
 is_next last name = is_name name && is_lt (slice_cmp nat_cmp last name)
 
@@ -98,21 +98,21 @@ name_at before = keeping (λ name. not (is_among before name)) text_at
 abbrev pub names : List (List ℕ × Node) → List (List ℕ)
 names members = map (λ member. member.0) members
 
--- a member behind others, given how a value is read
+-- a member after others, given how to read a value
 unfoldable pub member_at : (List ℕ → Read Node) → List (List ℕ × Node) → List ℕ → Read (List ℕ × Node)
 member_at value_at before bytes = do
   name ← name_at (names before) bytes
   value ← value_at name.1
   Ok ((name.0, value.0), value.1)
 
--- what stands in an array
+-- the items of an array
 unfoldable pub items_at : (List ℕ → Read Node) → List ℕ → Read Node
 items_at value_at bytes = do
   n ← count_at bytes
   items ← list_at (λ before. value_at) [] n.0 n.1
   Ok (node.Items items.0, items.1)
 
--- what stands in an object
+-- the members of an object
 unfoldable pub members_at : (List ℕ → Read Node) → List ℕ → Read Node
 members_at value_at bytes = do
   n ← count_at bytes
@@ -120,10 +120,10 @@ members_at value_at bytes = do
   Ok (node.Members members.0, members.1)
 
 unfoldable pub kind_at : List ℕ → Read ℕ
-kind_at [] = Err (Early 0)
+kind_at [] = Err (Truncated 0)
 kind_at (kind ∷ rest) = Ok (kind, rest)
 
--- a node, given how the rest of an array and of an object is read
+-- a node, given how to read the rest of an array and of an object
 unfoldable pub node_of : (List ℕ → Read Node) → (List ℕ → Read Node) → List ℕ → Read Node
 node_of array_at object_at bytes = do
   kind ← kind_at bytes
@@ -134,11 +134,11 @@ node_of array_at object_at bytes = do
       else if kind.0 == 4 then (text_at kind.1 >>= λ text. Ok (node.Text text.0, text.1))
       else if kind.0 == 5 then array_at kind.1
       else if kind.0 == 6 then object_at kind.1
-      else Err (Misfit (length bytes))
+      else Err (Invalid (length bytes))
 
--- a node in which at most so many arrays and objects enclose each other; one too many doesn't fit at its kind
+-- a node in which arrays and objects nest at most this deep; one that nests deeper is invalid at its kind
 unfoldable pub node_at : ℕ → List ℕ → Read Node
-node_at zero bytes = node_of (λ rest. Err (Misfit (length bytes))) (λ rest. Err (Misfit (length bytes))) bytes
+node_at zero bytes = node_of (λ rest. Err (Invalid (length bytes))) (λ rest. Err (Invalid (length bytes))) bytes
 node_at (suc depth) bytes = node_of (items_at (node_at depth)) (members_at (node_at depth)) bytes
 
 unfoldable pub document_at : List ℕ → Read PlainDocument
@@ -148,28 +148,28 @@ document_at bytes = do
   root ← node_at 128 collections.1
   Ok (record { uri = uri.0; collections = collections.0; root = root.0 }, root.1)
 
--- a document that keeps the rule on size too: one that is too large in all doesn't fit at its first byte
+-- a document of at most the greatest size; a larger one is invalid at its first byte
 unfoldable pub sized_document_at : List ℕ → Read PlainDocument
 sized_document_at = keeping (λ d. not (nat_lt (2 ^ 24) (document_size d))) document_at
 
--- a document with no byte behind it; one that is too large in all doesn't fit at its first byte
-unfoldable pub whole_of : List ℕ → Result PlainDocument Fault
+-- a document with no byte after it; one that is too large is invalid at its first byte
+unfoldable pub whole_of : List ℕ → Result PlainDocument FieldError
 whole_of bytes = do
   d ← document_at bytes
-  if not (length d.1 == 0) then Err (Misfit (length d.1))
-      else if nat_lt (2 ^ 24) (document_size d.0) then Err (Misfit (length bytes))
+  if not (length d.1 == 0) then Err (Invalid (length d.1))
+      else if nat_lt (2 ^ 24) (document_size d.0) then Err (Invalid (length bytes))
       else Ok d.0
 
--- the place of a fault in bytes of this length, which is the length where they end early
-abbrev pub place_of : ℕ → Fault → ℕ
-place_of len (Early left) = len
-place_of len (Misfit left) = len - left
+-- the place of an error in bytes of this length; it is the length if they end early
+abbrev pub place_of : ℕ → FieldError → ℕ
+place_of len (Truncated left) = len
+place_of len (Invalid left) = len - left
 
--- the document, or the place of its fault in bytes of this length
-abbrev pub placed : ℕ → Result PlainDocument Fault → Result PlainDocument ℕ
+-- the document, or the place of its error in bytes of this length
+abbrev pub placed : ℕ → Result PlainDocument FieldError → Result PlainDocument ℕ
 placed len (Ok d) = Ok d
 placed len (Err fault) = Err (place_of len fault)
 
--- the document that bytes spell, or the place of the first field that doesn't fit
+-- the document that bytes spell, or the place of the first invalid field
 abbrev pub document_of : List ℕ → Result PlainDocument ℕ
 document_of bytes = placed (length bytes) (whole_of bytes)

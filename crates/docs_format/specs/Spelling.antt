@@ -22,7 +22,7 @@ number units = big_bytes 16 (cast_unsigned w128 units)
 abbrev pub text : List ℕ → List ℕ
 text bytes = count (length bytes) ++ bytes
 
--- a node: a byte for its kind, and what stands in it
+-- a node: a byte for its kind, and its content
 abbrev pub node_step : Node-F (List ℕ) → List ℕ
 node_step Node-F.Null = 0 ∷ []
 node_step (Node-F.Bool b) = (if b then 2 else 1) ∷ []
@@ -35,11 +35,11 @@ node_step (Node-F.Members members) =
 abbrev pub node : Node → List ℕ
 node = fold-Node (List ℕ) node_step
 
--- what stands in an array: how many items, and each
+-- the content of an array: how many items, and each
 abbrev pub items : List Node → List ℕ
 items list = count (length list) ++ flat_map node list
 
--- what stands in an object: how many members, and of each its name and its value
+-- the content of an object: how many members, and the name and value of each
 abbrev pub members : List (List ℕ × Node) → List ℕ
 members list = count (length list) ++ flat_map (λ member. text member.0 ++ node member.1) list
 
@@ -57,11 +57,12 @@ is_decimal units = int_lt (negsuc (10 ^ 38 - 1)) units && int_lt units (pos (10 
 
 -- the texts and names of a tree are UTF-8, and its numbers decimals
 abbrev pub values_step : Node-F Bool → Bool
+values_step Node-F.Null = true
+values_step (Node-F.Bool b) = true
 values_step (Node-F.Num units) = is_decimal units
 values_step (Node-F.Text t) = is_utf8 t
 values_step (Node-F.Items items) = list_all (λ item. item) items
 values_step (Node-F.Members members) = list_all (λ member. is_utf8 member.0 && member.1) members
-values_step _ = true
 
 abbrev pub has_values : Node → Bool
 has_values = fold-Node Bool values_step

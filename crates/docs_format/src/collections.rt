@@ -2,22 +2,22 @@ ghost use Rattle.std.specs.Prelude.{◌≡◌};
 ghost use Rattle.docs_format.specs.Answers.{Gives};
 ghost use Rattle.docs_format.specs.Reading.{collection_at, collections_at, is_next};
 
-use crate::fault::{Fault, Stop};
+use crate::fault::{DecodeError, FieldError};
 use crate::reader::Reader;
 use doc_model::{Text, Texts};
 use std::alloc::Global;
 
-const MOST_COLLECTIONS: u32 = 64;
+const MAX_COLLECTIONS: u32 = doc_model::MAX_COLLECTIONS as u32;
 
-/// The collections of a document, each above the one before it.
+/// Reads the collections of a document, in strictly rising order.
 #[tactic(auto, unfolding(crate::specs::Reading::collections_at))]
-pub fn collections_at(alloc: Global, reader: &mut Reader) -> Result<Texts, Stop>
+pub fn collections_at(alloc: Global, reader: &mut Reader) -> Result<Texts, DecodeError>
     ensures { Gives (λ x. (x, reader.new)) result (collections_at reader.old) }
 {
     let left = reader.left();
     let count = reader.count()?;
-    if count > MOST_COLLECTIONS {
-        return Err(Stop::Bad(Fault::Misfit(left)));
+    if count > MAX_COLLECTIONS {
+        return Err(DecodeError::Bad(FieldError::Invalid(left)));
     }
     let mut collections = Texts::new(alloc);
     let mut last = "";
@@ -29,7 +29,7 @@ pub fn collections_at(alloc: Global, reader: &mut Reader) -> Result<Texts, Stop>
 }
 
 #[tactic(auto, unfolding(crate::specs::Reading::collection_at))]
-fn collection_at<'a>(last: &str, reader: &mut Reader<'a>) -> Result<&'a str, Stop>
+fn collection_at<'a>(last: &str, reader: &mut Reader<'a>) -> Result<&'a str, DecodeError>
     ensures { Gives (λ x. (x.now, reader.new)) result (collection_at last.now reader.old) }
 {
     let left = reader.left();
@@ -37,11 +37,11 @@ fn collection_at<'a>(last: &str, reader: &mut Reader<'a>) -> Result<&'a str, Sto
     if is_next(last, name) {
         Ok(name)
     } else {
-        Err(Stop::Bad(Fault::Misfit(left)))
+        Err(DecodeError::Bad(FieldError::Invalid(left)))
     }
 }
 
-/// Whether a name may stand behind another one: it has 1 to 1,024 bytes, and is above it by its bytes.
+/// Whether a name may follow `last`: it has 1 to 1,024 bytes and is greater by its bytes.
 fn is_next(last: &str, name: &str) -> bool
     ensures { result ≡ is_next last.now name.now }
 {

@@ -1,60 +1,68 @@
-//! Why bytes make no document.
+//! Why bytes weren't decoded.
 
 ghost use Rattle.std.specs.Prelude.{◌≡◌};
-ghost use Rattle.docs_format.specs.declared.fault.Stop.TheVariants.{Memory};
+ghost use Rattle.docs_format.specs.declared.fault.DecodeError.TheVariants.{Memory};
 ghost use Rattle.docs_format.specs.Reading.{left_of};
 
 use std::alloc::{AllocError, AllocFailed};
+use thiserror::Error;
 
-/// Why bytes weren't decoded: they aren't those of a document, or want of memory.
-#[derive(Clone, Copy, Debug, PartialEq, Eq)]
+/// Why bytes weren't decoded.
+#[derive(Clone, Copy, Debug, PartialEq, Eq, Error)]
 pub enum DocBytesBad {
-    /// The first byte of the first field that doesn't fit, the length of the bytes where they end early, the first
-    /// byte past the document where they go on, and 0 where only its size is too great.
+    /// The bytes break a rule at this place. For a document it is the first byte of the first invalid field, the
+    /// length of the bytes if they end early, the first byte past the document if they go on, and 0 if only the
+    /// document's size is too great.
+    #[error("the bytes break a rule at {place}")]
     Bad { place: u64 },
+    #[error("out of memory")]
     Memory,
 }
 
 /// The field at which reading stopped, by how many bytes are left from its first byte on.
-#[derive(Clone, Copy, Debug, PartialEq, Eq)]
-pub enum Fault {
+#[derive(Clone, Copy, Debug, PartialEq, Eq, Error)]
+pub enum FieldError {
     /// The bytes end inside the field, or before it.
-    Early(usize),
-    /// The field is there, and doesn't fit.
-    Misfit(usize),
+    #[error("the bytes end inside a field, {0} bytes behind its first one")]
+    Truncated(usize),
+    /// The field is complete and invalid.
+    #[error("the field that begins {0} bytes before the end is invalid")]
+    Invalid(usize),
 }
 
-impl Fault {
-    /// How many bytes are left from the field's first byte on.
+impl FieldError {
+    /// How many bytes are left from the first byte of the field on.
     pub fn left(self) -> usize
         ensures { result ≡ left_of self }
     {
         match self {
-            Fault::Early(left) => left,
-            Fault::Misfit(left) => left,
+            FieldError::Truncated(left) => left,
+            FieldError::Invalid(left) => left,
         }
     }
 }
 
 /// Why reading stopped.
-#[derive(Clone, Copy, Debug, PartialEq, Eq)]
-pub enum Stop {
+#[derive(Clone, Copy, Debug, PartialEq, Eq, Error)]
+pub enum DecodeError {
+    #[error("out of memory")]
     Memory,
-    Bad(Fault),
+    #[error(transparent)]
+    Bad(FieldError),
 }
 
-impl From<AllocError> for Stop {
+impl From<AllocError> for DecodeError {
     ghost from_gives = { λ _ stop. stop ≡ Memory };
 
-    fn from(_e: AllocError) -> Stop {
-        Stop::Memory
+    fn from(_e: AllocError) -> DecodeError {
+        DecodeError::Memory
     }
 }
 
-impl<T: Drop> From<AllocFailed<T>> for Stop {
+impl<T: Drop> From<AllocFailed<T>> for DecodeError {
     ghost from_gives = { λ _ stop. stop ≡ Memory };
 
-    fn from(_e: AllocFailed<T>) -> Stop {
-        Stop::Memory
+    fn from(_e: AllocFailed<T>) -> DecodeError {
+        DecodeError::Memory
     }
 }

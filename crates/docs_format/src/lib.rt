@@ -1,4 +1,4 @@
-//! Documents as bytes: one spelling of each, and the place of the first byte that doesn't fit.
+//! Documents as bytes: one spelling of each, and the place of the first invalid field.
 #![tactic(auto)]
 
 mod collections;
@@ -10,7 +10,7 @@ mod reader;
 mod reading;
 mod writing;
 
-pub use fault::{DocBytesBad, Fault, Stop};
+pub use fault::{DecodeError, DocBytesBad, FieldError};
 pub use laws::{
     beginnings_end_early, documents_are_read_again, faults_stay, more_is_too_many,
     what_is_read_is_spelled,

@@ -3,17 +3,17 @@ ghost use Rattle.doc_model.specs.Tree.{is_among};
 ghost use Rattle.docs_format.specs.Answers.{Gives, HasNames};
 ghost use Rattle.docs_format.specs.Reading.{name_at};
 
-use crate::fault::{Fault, Stop};
+use crate::fault::{DecodeError, FieldError};
 use crate::reader::Reader;
 use std::alloc::AllocError;
 use std::collections::BTreeMap;
 
-/// The name of a member, which is noted. It isn't among those that were noted before.
+/// Reads the name of a member and adds it to `seen`. A name that `seen` has is invalid.
 #[tactic(auto, unfolding(crate::specs::Reading::name_at))]
 pub fn name_at<'a>(
     seen: &mut BTreeMap<&'a str, ()>,
     reader: &mut Reader<'a>,
-) -> Result<&'a str, Stop>
+) -> Result<&'a str, DecodeError>
     ensures name { (before : List (List ℕ)) → HasNames seen.old before
         → Gives (λ x. (x.now, reader.new)) result (name_at before reader.old) }
     ensures noted { (before : List (List ℕ)) → HasNames seen.old before
@@ -24,11 +24,11 @@ pub fn name_at<'a>(
     if is_fresh(seen, name)? {
         Ok(name)
     } else {
-        Err(Stop::Bad(Fault::Misfit(left)))
+        Err(DecodeError::Bad(FieldError::Invalid(left)))
     }
 }
 
-/// Whether a name wasn't noted before. It is from now on.
+/// Adds a name, and returns whether it is new.
 fn is_fresh<'a>(seen: &mut BTreeMap<&'a str, ()>, name: &'a str) -> Result<bool, AllocError>
     ensures fresh { (before : List (List ℕ)) → HasNames seen.old before
         → IfOk result (λ fresh. fresh ≡ not (is_among before name.now)) }

@@ -1,20 +1,20 @@
 ghost use Rattle.std.specs.Prelude.{◌≡◌, ◌+◌, ◌∷◌, [], ◌++◌, List, ℕ, IfErr, IfOk};
 ghost use Rattle.docs_format.specs.Answers.{Gives, HasNames};
-ghost use Rattle.docs_format.specs.declared.fault.Fault.TheVariants.{Misfit};
-ghost use Rattle.docs_format.specs.declared.fault.Stop.TheVariants.{Bad};
+ghost use Rattle.docs_format.specs.declared.fault.FieldError.TheVariants.{Invalid};
+ghost use Rattle.docs_format.specs.declared.fault.DecodeError.TheVariants.{Bad};
 ghost use Rattle.docs_format.specs.Reading.{items_at, member_at, members_at, names, node_at};
 
-use crate::fault::{Fault, Stop};
+use crate::fault::{DecodeError, FieldError};
 use crate::names::name_at;
 use crate::reader::Reader;
 use doc_model::{Members, Node, Nodes, Text};
 use std::alloc::Global;
 use std::collections::BTreeMap;
 
-/// A node in which at most so many arrays and objects enclose each other.
+/// Reads a node in which arrays and objects nest at most `depth` deep.
 #[cycle(reading)]
 #[tactic(auto, unfolding(crate::specs::Reading::node_of))]
-pub fn node_at(alloc: Global, depth: u32, reader: &mut Reader) -> Result<Node, Stop>
+pub fn node_at(alloc: Global, depth: u32, reader: &mut Reader) -> Result<Node, DecodeError>
     ensures { Gives (λ x. (x, reader.new)) result (node_at depth reader.old) }
 {
     let left = reader.left();
@@ -26,21 +26,23 @@ pub fn node_at(alloc: Global, depth: u32, reader: &mut Reader) -> Result<Node, S
         4 => Ok(Node::Text(Text::from_str(alloc, reader.text()?)?)),
         5 => items_at(alloc, inside(depth, left)?, reader),
         6 => members_at(alloc, inside(depth, left)?, reader),
-        7.. => Err(Stop::Bad(Fault::Misfit(left))),
+        7.. => Err(DecodeError::Bad(FieldError::Invalid(left))),
     }
 }
 
-/// How many arrays and objects may enclose each other inside of one, where so many may with it.
-fn inside(depth: u32, left: usize) -> Result<u32, Stop>
-    ensures deep { IfErr result (λ why. (depth ≡ 0) × (why ≡ Bad (Misfit left))) }
+/// How deep the values in an array or object may nest. An array or object at depth 0 is invalid.
+fn inside(depth: u32, left: usize) -> Result<u32, DecodeError>
+    ensures deep { IfErr result (λ why. (depth ≡ 0) × (why ≡ Bad (Invalid left))) }
     ensures inner { IfOk result (λ inner. inner + 1 ≡ depth) }
 {
-    depth.checked_sub(1).ok_or(Stop::Bad(Fault::Misfit(left)))
+    depth
+        .checked_sub(1)
+        .ok_or(DecodeError::Bad(FieldError::Invalid(left)))
 }
 
 #[cycle(reading)]
 #[tactic(auto, unfolding(crate::specs::Reading::items_at))]
-fn items_at(alloc: Global, depth: u32, reader: &mut Reader) -> Result<Node, Stop>
+fn items_at(alloc: Global, depth: u32, reader: &mut Reader) -> Result<Node, DecodeError>
     ensures { Gives (λ x. (x, reader.new)) result (items_at (node_at depth) reader.old) }
 {
     let mut items = Nodes::new(alloc);
@@ -53,7 +55,7 @@ fn items_at(alloc: Global, depth: u32, reader: &mut Reader) -> Result<Node, Stop
 
 #[cycle(reading)]
 #[tactic(auto, unfolding(crate::specs::Reading::members_at))]
-fn members_at(alloc: Global, depth: u32, reader: &mut Reader) -> Result<Node, Stop>
+fn members_at(alloc: Global, depth: u32, reader: &mut Reader) -> Result<Node, DecodeError>
     ensures { Gives (λ x. (x, reader.new)) result (members_at (node_at depth) reader.old) }
 {
     let mut members = Members::new(alloc);
@@ -65,7 +67,7 @@ fn members_at(alloc: Global, depth: u32, reader: &mut Reader) -> Result<Node, St
     Ok(Node::Members(members))
 }
 
-/// A member, whose name is noted and isn't among those that were noted before.
+/// Reads a member and adds its name to `seen`. A name that `seen` has is invalid.
 #[cycle(reading)]
 #[tactic(auto, unfolding(crate::specs::Reading::member_at))]
 fn member_at<'a>(
@@ -73,7 +75,7 @@ fn member_at<'a>(
     depth: u32,
     seen: &mut BTreeMap<&'a str, ()>,
     reader: &mut Reader<'a>,
-) -> Result<(Text, Node), Stop>
+) -> Result<(Text, Node), DecodeError>
     ensures member { (before : List (List ℕ × Node)) → HasNames seen.old (names before)
         → Gives (λ x. (x, reader.new)) result (member_at (node_at depth) before reader.old) }
     ensures noted { (before : List (List ℕ × Node)) → HasNames seen.old (names before)

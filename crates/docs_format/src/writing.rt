@@ -10,7 +10,7 @@ use byteorder::{BigEndian, ByteOrder};
 use doc_model::{Dec, Document, Members, Node, Nodes, Text};
 use std::alloc::{AllocError, Global};
 
-/// The one spelling of a document.
+/// Encodes a document. Each document has one spelling.
 pub fn encode(alloc: Global, document: &Document) -> Result<Vec<u8>, AllocError>
     ensures { IfOk result (λ bytes. Spells bytes.items document.now) }
 {
@@ -19,7 +19,7 @@ pub fn encode(alloc: Global, document: &Document) -> Result<Vec<u8>, AllocError>
     Ok(out)
 }
 
-/// Appends the one spelling of a document.
+/// Appends the spelling of a document.
 pub fn put_document(out: &mut Vec<u8>, value: &Document) -> Result<(), AllocError>
     ensures written { OnOk result (out.new.items ≡ out.old.items ++ document value.now) }
     ensures spells { OnOk result (Spells (document value.now) value.now) }
@@ -68,7 +68,7 @@ fn put_number(out: &mut Vec<u8>, value: &Dec) -> Result<(), AllocError>
     out.extend_from_slice(&bytes)
 }
 
-/// Appends a text behind its length.
+/// Appends the length of a text, and the text.
 pub fn put_text(out: &mut Vec<u8>, value: &Text) -> Result<(), AllocError>
     requires { length value.now < 2 ^ 32 }
     ensures written { OnOk result (out.new.items ≡ out.old.items ++ text value.now) }

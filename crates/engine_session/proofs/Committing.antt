@@ -10,13 +10,12 @@ use Rattle.disk_model.specs.declared.yard.Build
 use Rattle.disk_model.specs.declared.yard.SealedFile
 use Rattle.disk_model.specs.declared.yard.Yard
 use Rattle.doc_engine.specs.Checks.{IsShort, end_with}
-use Rattle.doc_engine.specs.Held.{IsAt, disk_of, held_of, journal_of}
-use Rattle.doc_engine.specs.Standing.{ShowsWith, StandsFor}
+use Rattle.doc_engine.specs.EngineState.{IsAt, disk_of, state_of, journal_of}
+use Rattle.doc_engine.specs.Representing.{ShowsWith, RepresentsHistory}
 use Rattle.doc_engine.specs.declared.engine.Engine.{Engine}
 use Rattle.doc_engine.specs.declared.refusal.CommitRefusal.{CommitRefusal}
 use Rattle.doc_engine.specs.declared.refusal.CommitRefusal.TheVariants as refusal
-use Rattle.doc_meaning.proofs.EntryLemmas.{merge_after_push}
-use Rattle.doc_meaning.specs.History.{Base, History, front, latest, merge}
+use Rattle.doc_meaning.specs.History.{Base, History, latest}
 use Rattle.doc_meaning.specs.Replies.{differs, first_twice, is_spent}
 use Rattle.doc_model.specs.Operations.{AreOps, uri_of}
 use Rattle.doc_model.specs.declared.entry.Entry.{Entry}
@@ -24,109 +23,102 @@ use Rattle.doc_model.specs.declared.entry.Entry.TheVariants as entry
 use Rattle.doc_model.specs.declared.op.Op.{Op}
 use Rattle.engine_session.proofs.Crashing.{LeavesNow, shows_all, shows_more}
 use Rattle.engine_session.proofs.Saying.{answer_of, conflict_free, rose_earlier, twice_free}
-use Rattle.engine_session.proofs.Taking.{Goes, goes_more, goes_same}
+use Rattle.engine_session.proofs.Taking.{takes_more, takes_same}
 use Rattle.engine_session.proofs.Turning.{behind_none, one_more, pending_last, pending_stays, same_more, turn_of}
 use Rattle.engine_session.proofs.Turning.{up_none}
+use Rattle.engine_session.specs.Attended.{Takes}
 use Rattle.engine_session.specs.Pending.{pending_behind, pending_of}
 use Rattle.engine_session.specs.Step.{HasCommitted}
 use Rattle.frame_log.proofs.Stretches.{throughout_weaker}
-use Rattle.journal_meaning.proofs.EntryLemmas.{front_push}
-use Rattle.transcript.specs.Legal.{Answers, IsDown, IsTurn, MayBeFull, UnlessDown}
+use Rattle.transcript.specs.Legal.{AnswersEvent, IsDown, IsTurn, MayBeFull, UnlessDown}
 use Rattle.transcript.specs.Turns.{Answer, Turn, commit, commits, down, down_of, entries_of, fault, history_of}
 
 module _ {D Y F B : Type 0} {of_disk : Disk.Ghosts D} {of_yard : Yard.Ghosts Y F B} {of_file : SealedFile.Ghosts F}
     {of_build : Build.Ghosts B F}
-    (at_now : LeavesNow of_disk.may_leave of_disk.moment of_disk.left_since)
+    (at_now : LeavesNow of_disk)
     (first : Engine D Y F B of_disk of_yard of_file of_build) (base : Base) (longest : ℕ)
     (old new : Engine D Y F B of_disk of_yard of_file of_build) (ops : List Op) (asked : AreOps ops) (list : List Turn)
-    (goes : Goes at_now first base longest old list) where
+    (takes : Takes first old base longest list) where
   h : History
   h = history_of base list
 
   -- the turn of the commit with this answer
   abbrev pub commit_turn : Result ℕ CommitRefusal → Turn
-  commit_turn result = turn_of (commit ops) (answer_of result) (held_of new).down
+  commit_turn result = turn_of (commit ops) (answer_of result) (state_of new).down
 
   end : ℕ
-  end = end_with (journal_of old) ((held_of old).front + 1) ops
+  end = end_with (journal_of old) ((state_of old).read.front + 1) ops
 
   -- the journal may be full only where the entries that came about may fill it
-  may_be_full : IsShort (journal_of old) ((held_of old).front + 1) ops
+  may_be_full : IsShort (journal_of old) ((state_of old).read.front + 1) ops
       → MayBeFull base longest list (nat_le (2 ^ 62) end)
   unfolding end
-  may_be_full near full = omega (arith, leb-true (2 ^ 62) end full, near, goes.takes.ends)
+  may_be_full near full = omega (arith, leb-true (2 ^ 62) end full, near, takes.ends)
 
-  -- where no log fault stands the answer is as defined
-  as_defined : (answer : Answer) → (held_of old).down ≡ None → Answers base longest list (commit ops) answer
-      → UnlessDown true (down_of list) answer (Answers base longest list (commit ops) answer)
+  -- where no log is down the answer is as defined
+  as_defined : (answer : Answer) → (state_of old).down ≡ None → AnswersEvent base longest list (commit ops) answer
+      → UnlessDown true (down_of list) answer (AnswersEvent base longest list (commit ops) answer)
   as_defined answer up defined =
-      subst (λ (d : Option ℕ). UnlessDown true d answer (Answers base longest list (commit ops) answer))
-      (sym up ∙ goes.takes.down) defined
+      subst (λ (d : Option ℕ). UnlessDown true d answer (AnswersEvent base longest list (commit ops) answer))
+      (sym up ∙ takes.down) defined
 
   -- where an engine that was left as it was is down, so the turns were before
-  still_down : new ≡ old → (held_of new).down ≡ down_of list
+  still_down : new ≡ old → (state_of new).down ≡ down_of list
   still_down same =
-      ap (λ (e : Engine D Y F B of_disk of_yard of_file of_build). (held_of e).down) same ∙ goes.takes.down
+      ap (λ (e : Engine D Y F B of_disk of_yard of_file of_build). (state_of e).down) same ∙ takes.down
 
   -- a refusal that leaves the engine as it was
   refused : (result : Result ℕ CommitRefusal) → new ≡ old → IsTurn base longest list (commit_turn result)
       → ((n : ℕ) → pending_behind (pending_of list) (commit ops) (answer_of result) (Some n) ≡ pending_of list)
       → entries_of (commit ops) (answer_of result) ≡ []
-      → Goes at_now first base longest new (list ++ commit_turn result ∷ [])
+      → Takes first new base longest (list ++ commit_turn result ∷ [])
   refused result same follows stays none =
       subst (λ (e : Engine D Y F B of_disk of_yard of_file of_build).
-      Goes at_now first base longest e (list ++ commit_turn result ∷ [])) (sym same)
-      (goes_same at_now first base longest old list (commit_turn result) goes refl follows none (still_down same)
-      (pending_stays list (commit ops) (answer_of result) (held_of new).down (still_down same) stays))
+      Takes first e base longest (list ++ commit_turn result ∷ [])) (sym same)
+      (takes_same at_now first base longest old list (commit_turn result) takes refl follows none (still_down same)
+      (pending_stays list (commit ops) (answer_of result) (state_of new).down (still_down same) stays))
 
   -- a commit that was entered
   entered : (at : ℕ) → HasCommitted old new ops (Ok at)
-      → Goes at_now first base longest new (list ++ commit_turn (Ok at) ∷ [])
+      → Takes first new base longest (list ++ commit_turn (Ok at) ∷ [])
   unfolding h end
   entered at has =
-      let is = goes.takes.is_at in
-      let up = has.reply.cause.0 in
-      let lasts = has.reply.cause.1 in
-      let list_up : down_of list ≡ None = sym goes.takes.down ∙ up in
+      let is = takes.is_at in
+      let up = has.answers.cause.0 in
+      let lasts = has.answers.cause.1 in
+      let list_up : down_of list ≡ None = sym takes.down ∙ up in
       let whole = one_more base list (commit_turn (Ok at)) (entry.Commit ops) refl in
       let pends : pending_of (list ++ commit_turn (Ok at) ∷ []) ≡ None =
       pending_last None list (commit_turn (Ok at))
-      ∙ behind_none (pending_of list) (commit ops) (answer_of (Ok at)) (held_of new).down lasts in
-      goes_more at_now first base longest old new list (commit_turn (Ok at)) goes refl
+      ∙ behind_none (pending_of list) (commit ops) (answer_of (Ok at)) (state_of new).down lasts in
+      takes_more at_now first base longest old new list (commit_turn (Ok at)) takes refl
       (record {
         asked = asked;
         of_job = tt;
         answers = inr (as_defined (answer_of (Ok at)) up
-            (inl (nat_le (2 ^ 62) end, may_be_full has.growth.1, ap commits (has.reply.reply h is))));
+            (inl (nat_le (2 ^ 62) end, may_be_full has.growth.1, ap commits (has.answers.reply h is))));
         is_down = lasts ∙ sym list_up;
       })
-      (subst (λ (g : History). IsAt (held_of new) g) (sym whole) (has.reply.goes_on h is))
+      (subst (λ (g : History). IsAt (state_of new) g) (sym whole) (has.answers.goes_on h is))
       refl
       (subst (λ (o : Option ℕ). IfSome o (λ count. Rose (of_disk.faults (disk_of first)) count
       × (count ≤ of_disk.faults (disk_of new)))) (sym lasts) tt)
-      has.reply.later
+      has.answers.later
       (omega (
         arith,
         has.growth.0,
         has.growth.1,
-        goes.takes.ends,
+        takes.ends,
         ap (λ (g : History). length g.entries) whole,
         length-append h.entries (entry.Commit ops ∷ []),
       ))
       has.rest.yard
-      (subst (λ (g : History). merge g ≤ front g) (sym whole)
-      (omega (
-        arith,
-        goes.ordered,
-        merge_after_push h.base.merge h.entries (entry.Commit ops),
-        front_push h (entry.Commit ops),
-      )))
-      (λ stands.
+      (λ represents.
       let enters = has.crash h is (subst (λ (p : Option Entry).
-      StandsFor of_disk.seen of_disk.may_leave (journal_of old) (disk_of old) h p)
-      (up_none list list_up) stands) in (
+      RepresentsHistory of_disk (journal_of old) (disk_of old) h p)
+      (up_none list list_up) represents) in (
         subst₂ (λ (g : History) (p : Option Entry).
-            StandsFor of_disk.seen of_disk.may_leave (journal_of new) (disk_of new) g p)
+            RepresentsHistory of_disk (journal_of new) (disk_of new) g p)
             (sym whole) (sym pends) enters.now,
         throughout_weaker _ _ _ _ _ _ enters.any_moment (λ c shows. ⊎_elim
             (λ here. shows_more base list (commit_turn (Ok at)) (length list) c
@@ -140,41 +132,40 @@ module _ {D Y F B : Type 0} {of_disk : Disk.Ghosts D} {of_yard : Yard.Ghosts Y F
 
   -- a commit that a fault broke off
   broken : HasCommitted old new ops (Err refusal.Fault)
-      → Goes at_now first base longest new (list ++ commit_turn (Err refusal.Fault) ∷ [])
+      → Takes first new base longest (list ++ commit_turn (Err refusal.Fault) ∷ [])
   unfolding h end
   broken has =
-      let is = goes.takes.is_at in
+      let is = takes.is_at in
       let turn = commit_turn (Err refusal.Fault) in
-      let up = has.reply.cause.0 in
-      let rose = has.reply.cause.1 in
-      let downs = has.reply.cause.2 in
-      let list_up : down_of list ≡ None = sym goes.takes.down ∙ up in
+      let up = has.answers.cause.0 in
+      let rose = has.answers.cause.1 in
+      let downs = has.answers.cause.2 in
+      let list_up : down_of list ≡ None = sym takes.down ∙ up in
       let whole = same_more base list turn refl in
       let pends : pending_of (list ++ turn ∷ []) ≡ Some (entry.Commit ops) =
       pending_last None list turn
       ∙ ap (pending_behind (pending_of list) (commit ops) fault) downs in
-      goes_more at_now first base longest old new list turn goes refl
+      takes_more at_now first base longest old new list turn takes refl
       (record {
         asked = asked;
         of_job = tt;
-        answers = inr (as_defined fault up (inr (refl, has.reply.would h is)));
+        answers = inr (as_defined fault up (inr (refl, has.answers.would h is)));
         is_down = (of_disk.faults (disk_of new), downs, sets rose);
       })
-      (subst (λ (g : History). IsAt (held_of new) g) (sym whole) (has.reply.goes_on h is))
+      (subst (λ (g : History). IsAt (state_of new) g) (sym whole) (has.answers.goes_on h is))
       refl
       (subst (λ (o : Option ℕ). IfSome o (λ count. Rose (of_disk.faults (disk_of first)) count
       × (count ≤ of_disk.faults (disk_of new)))) (sym downs)
-      (rose_earlier _ _ _ goes.takes.later rose, omega arith))
-      has.reply.later
-      (omega (arith, has.growth, goes.takes.ends, ap (λ (g : History). length g.entries) whole))
+      (rose_earlier _ _ _ takes.later rose, omega arith))
+      has.answers.later
+      (omega (arith, has.growth, takes.ends, ap (λ (g : History). length g.entries) whole))
       has.rest.yard
-      (subst (λ (g : History). merge g ≤ front g) (sym whole) goes.ordered)
-      (λ stands.
+      (λ represents.
       let enters = has.crash h is (subst (λ (p : Option Entry).
-      StandsFor of_disk.seen of_disk.may_leave (journal_of old) (disk_of old) h p)
-      (up_none list list_up) stands) in (
+      RepresentsHistory of_disk (journal_of old) (disk_of old) h p)
+      (up_none list list_up) represents) in (
         subst₂ (λ (g : History) (p : Option Entry).
-            StandsFor of_disk.seen of_disk.may_leave (journal_of new) (disk_of new) g p)
+            RepresentsHistory of_disk (journal_of new) (disk_of new) g p)
             (sym whole) (sym pends) enters.now,
         throughout_weaker _ _ _ _ _ _ enters.any_moment (λ c shows.
             shows_all base (list ++ turn ∷ []) (length list) c (omega (arith, length-append list (turn ∷ [])))
@@ -189,12 +180,12 @@ module _ {D Y F B : Type 0} {of_disk : Disk.Ghosts D} {of_yard : Yard.Ghosts Y F
 
       sets : Rose (of_disk.faults (disk_of old)) (of_disk.faults (disk_of new))
           → All (λ (t : Turn). IfSome t.down (λ earlier. Rose earlier (of_disk.faults (disk_of new)))) list
-      sets rose k d lt = earlier_counts _ rose (goes.takes.counts k d lt)
+      sets rose k d lt = earlier_counts _ rose (takes.counts k d lt)
 
-  -- the turn that a refusal makes where no log fault stands
-  follows_up : (result : Result ℕ CommitRefusal) → (held_of old).down ≡ None → new ≡ old
-      → Answers base longest list (commit ops) (answer_of result)
-      → ((held_of new).down ≡ down_of list → IsDown list (commit ops) (answer_of result) (held_of new).down)
+  -- the turn that a refusal makes where no log is down
+  follows_up : (result : Result ℕ CommitRefusal) → (state_of old).down ≡ None → new ≡ old
+      → AnswersEvent base longest list (commit ops) (answer_of result)
+      → ((state_of new).down ≡ down_of list → IsDown list (commit ops) (answer_of result) (state_of new).down)
       → IsTurn base longest list (commit_turn result)
   follows_up result up same defined downs = record {
     asked = asked;
@@ -204,53 +195,53 @@ module _ {D Y F B : Type 0} {of_disk : Disk.Ghosts D} {of_yard : Yard.Ghosts Y F
   }
 
   -- the turn of a commit
-  pub goes_commit : (result : Result ℕ CommitRefusal) → HasCommitted old new ops result
-      → Goes at_now first base longest new (list ++ commit_turn result ∷ [])
+  pub takes_commit : (result : Result ℕ CommitRefusal) → HasCommitted old new ops result
+      → Takes first new base longest (list ++ commit_turn result ∷ [])
   unfolding h end
-  goes_commit (Ok at) has = entered at has
-  goes_commit (Err refusal.Fault) has = broken has
-  goes_commit (Err (refusal.Down faults)) has =
+  takes_commit (Ok at) has = entered at has
+  takes_commit (Err refusal.Fault) has = broken has
+  takes_commit (Err (refusal.Down faults)) has =
       refused (Err (refusal.Down faults)) has.unchanged (record {
         asked = asked;
         of_job = tt;
         answers = inr (subst (λ (d : Option ℕ). UnlessDown true d (down faults)
-            (Answers base longest list (commit ops) (down faults)))
-            (sym has.reply.cause ∙ goes.takes.down) refl);
+            (AnswersEvent base longest list (commit ops) (down faults)))
+            (sym has.answers.cause ∙ takes.down) refl);
         is_down = still_down has.unchanged;
       }) (λ n. refl) refl
-  goes_commit (Err (refusal.Twice uri)) has =
+  takes_commit (Err (refusal.Twice uri)) has =
       let whole = nat_le (2 ^ 62) end in
       refused (Err (refusal.Twice uri)) has.unchanged
-      (follows_up (Err (refusal.Twice uri)) has.reply.cause has.unchanged
+      (follows_up (Err (refusal.Twice uri)) has.answers.cause has.unchanged
       (inl (
         false,
         (λ is. absurd (cc)),
         ap commits (twice_free (first_twice [] (map uri_of ops))
             (find (differs (latest h)) ops) h (is_spent whole h) (is_spent false h) uri
-            (has.reply.reply h goes.takes.is_at)),
+            (has.answers.reply h takes.is_at)),
       ))
       (λ is. is))
       (λ n. refl) refl
-  goes_commit (Err (refusal.Conflict uri found at)) has =
+  takes_commit (Err (refusal.Conflict uri found at)) has =
       let whole = nat_le (2 ^ 62) end in
       refused (Err (refusal.Conflict uri found at)) has.unchanged
-      (follows_up (Err (refusal.Conflict uri found at)) has.reply.cause has.unchanged
+      (follows_up (Err (refusal.Conflict uri found at)) has.answers.cause has.unchanged
       (inl (
         false,
         (λ is. absurd (cc)),
         ap commits (conflict_free (first_twice [] (map uri_of ops))
             (find (differs (latest h)) ops) h (is_spent whole h) (is_spent false h) uri found at
-            (has.reply.reply h goes.takes.is_at)),
+            (has.answers.reply h takes.is_at)),
       ))
       (λ is. is))
       (λ n. refl) refl
-  goes_commit (Err (refusal.Spent at to)) has =
+  takes_commit (Err (refusal.Spent at to)) has =
       refused (Err (refusal.Spent at to)) has.unchanged
-      (follows_up (Err (refusal.Spent at to)) has.reply.cause has.unchanged
-      (inl (nat_le (2 ^ 62) end, may_be_full has.growth.1, ap commits (has.reply.reply h goes.takes.is_at)))
+      (follows_up (Err (refusal.Spent at to)) has.answers.cause has.unchanged
+      (inl (nat_le (2 ^ 62) end, may_be_full has.growth.1, ap commits (has.answers.reply h takes.is_at)))
       (λ is. is))
       (λ n. refl) refl
-  goes_commit (Err refusal.Memory) has =
+  takes_commit (Err refusal.Memory) has =
       refused (Err refusal.Memory) has.unchanged (record {
         asked = asked;
         of_job = tt;

@@ -5,13 +5,14 @@ use Rattle.std.proofs.lemmas.Bool.{cases_eq}
 use Rattle.std.proofs.lemmas.List.{take-append-le, take_all}
 use Rattle.std.proofs.lemmas.Option.{slice_get_within}
 use Rattle.std.specs.List.{slice_get}
-use Rattle.disk_model.specs.Logs.{Image, Outcomes}
-use Rattle.doc_engine.specs.Standing.{ShowsWith}
+use Rattle.disk_model.specs.Logs.{Image}
+use Rattle.doc_engine.specs.Representing.{ShowsWith}
 use Rattle.doc_meaning.specs.History.{Base}
 use Rattle.engine_session.specs.Pending.{Acknowledges, ShowsFrom, pending_of}
 use Rattle.engine_session.proofs.Places.{get_before, get_last}
 use Rattle.frame_log.proofs.Stretches.{throughout_then, throughout_weaker}
-use Rattle.frame_log.specs.Standing.{Since}
+use Rattle.disk_model.specs.Stretches.{Since}
+use Rattle.disk_model.specs.declared.disk.Disk
 use Rattle.transcript.specs.Turns.{Turn, history_of}
 
 module _ (base : Base) where
@@ -55,51 +56,51 @@ only_one x zero y is = (refl, sym (some_is is))
 only_one x (suc k) y is = absurd (cc)
 
 -- since its own moment a crash might have left exactly what it may leave
-abbrev pub LeavesNow : {D : Type 0} → (D → Outcomes) → (D → ℕ) → (D → ℕ → Outcomes) → Type 0
-LeavesNow {D} may_leave moment left_since = (disk : D) (c : Image)
-    → (left_since disk (moment disk) c → may_leave disk c) × (may_leave disk c → left_since disk (moment disk) c)
+abbrev pub LeavesNow : {D : Type 0} → Disk.Ghosts D → Type 0
+LeavesNow {D} of_disk = (disk : D) (c : Image)
+    → (of_disk.left_since disk (of_disk.moment disk) c → of_disk.may_leave disk c)
+    × (of_disk.may_leave disk c → of_disk.left_since disk (of_disk.moment disk) c)
 
-pub leaves_now : {D : Type 0} (may_leave : D → Outcomes) (moment : D → ℕ) (left_since : D → ℕ → Outcomes)
-    → ((disk : D) (c : Image) → left_since disk (moment disk) c → may_leave disk c)
-    → ((disk : D) (t : ℕ) (c : Image) → t ≤ moment disk → may_leave disk c → left_since disk t c)
-    → LeavesNow may_leave moment left_since
-leaves_now may_leave moment left_since only counts disk c = (only disk c, counts disk (moment disk) c (omega arith))
+pub leaves_now : {D : Type 0} (of_disk : Disk.Ghosts D)
+    → ((disk : D) (c : Image) → of_disk.left_since disk (of_disk.moment disk) c → of_disk.may_leave disk c)
+    → ((disk : D) (t : ℕ) (c : Image) → t ≤ of_disk.moment disk → of_disk.may_leave disk c → of_disk.left_since disk t c)
+    → LeavesNow of_disk
+leaves_now of_disk only counts disk c = (only disk c, counts disk (of_disk.moment disk) c (omega arith))
 
-module _ {D : Type 0} (seen : D → Option Image) (may_leave : D → Outcomes) (moment : D → ℕ)
-    (left_since : D → ℕ → Outcomes) (at_now : LeavesNow may_leave moment left_since) (base : Base) where
+module _ {D : Type 0} (of_disk : Disk.Ghosts D) (at_now : LeavesNow of_disk) (base : Base) where
   -- each image of a state shows the history of these turns, or it with the entry that was broken off
   abbrev pub AreShown : List Turn → D → Type 0
-  AreShown list state = (c : Image) → may_leave state c → ShowsWith (history_of base list) (pending_of list) c
+  AreShown list state = (c : Image) → of_disk.may_leave state c → ShowsWith (history_of base list) (pending_of list) c
 
   -- before the first turn
-  pub acknowledges_none : (disk : D) → IsSome (seen disk) → AreShown [] disk
-      → Acknowledges seen may_leave moment left_since base [] disk disk
+  pub acknowledges_none : (disk : D) → IsSome (of_disk.seen disk) → AreShown [] disk
+      → Acknowledges of_disk base [] disk disk
   acknowledges_none disk told shown = record {
     states = disk ∷ [];
     each = refl;
     first = refl;
     last = refl;
-    told = λ k state is. subst (λ s. IsSome (seen s)) (sym (only_one disk k state is).1) told;
+    told = λ k state is. subst (λ s. IsSome (of_disk.seen s)) (sym (only_one disk k state is).1) told;
     later = λ k state next is then. let (zeroth, same) = only_one disk (k + 1) next then in absurd (omega (arith, zeroth));
-    past = λ k state is. subst (λ s. moment s ≤ moment disk) (sym (only_one disk k state is).1) (omega arith);
-    stood = λ k state c is may.
+    past = λ k state is. subst (λ s. of_disk.moment s ≤ of_disk.moment disk) (sym (only_one disk k state is).1) (omega arith);
+    stayed = λ k state c is may.
         let (zeroth, same) = only_one disk k state is in
-        subst (λ s. left_since disk (moment s) c) (sym same) ((at_now disk c).1 (subst (λ s. may_leave s c) same may));
+        subst (λ s. of_disk.left_since disk (of_disk.moment s) c) (sym same) ((at_now disk c).1 (subst (λ s. of_disk.may_leave s c) same may));
     shows = λ k state c is may.
         let (zeroth, same) = only_one disk k state is in
         subst (λ n. ShowsWith (history_of base (take n [])) (pending_of (take n [])) c) (sym zeroth)
-        (shown c (subst (λ s. may_leave s c) same may));
+        (shown c (subst (λ s. of_disk.may_leave s c) same may));
     left = λ k state c is left.
         let (zeroth, same) = only_one disk k state is in
         shows_all base [] k c (omega (arith, zeroth))
-        (shown c ((at_now disk c).0 (subst (λ s. left_since disk (moment s) c) same left)));
+        (shown c ((at_now disk c).0 (subst (λ s. of_disk.left_since disk (of_disk.moment s) c) same left)));
   }
 
   -- at each moment up to the end of one turn more
   pub since_more : (list : List Turn) (turn : Turn) (old middle new : D)
-      → Since moment left_since old middle (ShowsFrom base list 0)
-      → Since moment left_since middle new (ShowsFrom base (list ++ turn ∷ []) (length list))
-      → Since moment left_since old new (ShowsFrom base (list ++ turn ∷ []) 0)
+      → Since of_disk old middle (ShowsFrom base list 0)
+      → Since of_disk middle new (ShowsFrom base (list ++ turn ∷ []) (length list))
+      → Since of_disk old new (ShowsFrom base (list ++ turn ∷ []) 0)
   since_more list turn old middle new before since =
       throughout_then _ _ _ _ _ _ _
       (throughout_weaker _ _ _ _ _ _ before (λ c shows. shows_more base list turn 0 c shows))
@@ -107,9 +108,9 @@ module _ {D : Type 0} (seen : D → Option Image) (may_leave : D → Outcomes) (
       (λ c shows. shows_fewer base (list ++ turn ∷ []) (length list) 0 c (omega arith) shows))
 
   module _ (list : List Turn) (turn : Turn) (old middle new : D)
-      (before : Acknowledges seen may_leave moment left_since base list old middle)
-      (since : Since moment left_since middle new (ShowsFrom base (list ++ turn ∷ []) (length list)))
-      (told : IsSome (seen new)) (shown : AreShown (list ++ turn ∷ []) new) where
+      (before : Acknowledges of_disk base list old middle)
+      (since : Since of_disk middle new (ShowsFrom base (list ++ turn ∷ []) (length list)))
+      (told : IsSome (of_disk.seen new)) (shown : AreShown (list ++ turn ∷ []) new) where
     states : List D
     states = before.states ++ new ∷ []
 
@@ -117,7 +118,7 @@ module _ {D : Type 0} (seen : D → Option Image) (may_leave : D → Outcomes) (
     unfolding states
     last_at = get_last before.states new
 
-    -- a state before, or the one behind the turn
+    -- a state before, or the one after the turn
     which : (k : ℕ) (state : D) → slice_get states k ≡ Some state
         → ((k < length before.states) × (slice_get before.states k ≡ Some state))
         ⊎ ((k ≡ length before.states) × (state ≡ new))
@@ -133,7 +134,7 @@ module _ {D : Type 0} (seen : D → Option Image) (may_leave : D → Outcomes) (
         (cases_eq k (length before.states))
 
     -- what the images of a state show
-    shown_at : (k : ℕ) (state : D) (c : Image) → slice_get states k ≡ Some state → may_leave state c
+    shown_at : (k : ℕ) (state : D) (c : Image) → slice_get states k ≡ Some state → of_disk.may_leave state c
         → ShowsWith (history_of base (take k (list ++ turn ∷ []))) (pending_of (take k (list ++ turn ∷ []))) c
     shown_at k state c is may = ⊎_elim
         (λ early. subst (λ (l : List Turn). ShowsWith (history_of base l) (pending_of l) c)
@@ -142,58 +143,58 @@ module _ {D : Type 0} (seen : D → Option Image) (may_leave : D → Outcomes) (
         (λ late. subst (λ (l : List Turn). ShowsWith (history_of base l) (pending_of l) c)
         (sym (take_all k (list ++ turn ∷ [])
         (omega (arith, late.0, before.each, length-append list (turn ∷ [])))))
-        (shown c (subst (λ s. may_leave s c) late.1 may)))
+        (shown c (subst (λ s. of_disk.may_leave s c) late.1 may)))
         (which k state is)
 
     -- what a crash leaves since a state
-    left_at : (k : ℕ) (state : D) (c : Image) → slice_get states k ≡ Some state → left_since new (moment state) c
+    left_at : (k : ℕ) (state : D) (c : Image) → slice_get states k ≡ Some state → of_disk.left_since new (of_disk.moment state) c
         → ShowsFrom base (list ++ turn ∷ []) k c
     left_at k state c is left = ⊎_elim
         (λ early. ⊎_elim
         (λ then. shows_more base list turn k c (before.left k state c early.1 then))
         (λ shows. shows_fewer base (list ++ turn ∷ []) (length list) k c
         (omega (arith, early.0, before.each)) shows)
-        (since.earlier (moment state) c (before.past k state early.1) left))
+        (since.earlier (of_disk.moment state) c (before.past k state early.1) left))
         (λ late. shows_all base (list ++ turn ∷ []) k c
         (omega (arith, late.0, before.each, length-append list (turn ∷ [])))
-        (shown c ((at_now new c).0 (subst (λ s. left_since new (moment s) c) late.1 left))))
+        (shown c ((at_now new c).0 (subst (λ s. of_disk.left_since new (of_disk.moment s) c) late.1 left))))
         (which k state is)
 
     -- a state is told
-    told_at : (k : ℕ) (state : D) → slice_get states k ≡ Some state → IsSome (seen state)
+    told_at : (k : ℕ) (state : D) → slice_get states k ≡ Some state → IsSome (of_disk.seen state)
     told_at k state is = ⊎_elim
         (λ early. before.told k state early.1)
-        (λ late. subst (λ s. IsSome (seen s)) (sym late.1) told)
+        (λ late. subst (λ s. IsSome (of_disk.seen s)) (sym late.1) told)
         (which k state is)
 
     -- its moment isn't past that of the last
-    past_at : (k : ℕ) (state : D) → slice_get states k ≡ Some state → moment state ≤ moment new
+    past_at : (k : ℕ) (state : D) → slice_get states k ≡ Some state → of_disk.moment state ≤ of_disk.moment new
     past_at k state is = ⊎_elim
         (λ early. omega (arith, before.past k state early.1, since.later))
-        (λ late. subst (λ s. moment s ≤ moment new) (sym late.1) (omega arith))
+        (λ late. subst (λ s. of_disk.moment s ≤ of_disk.moment new) (sym late.1) (omega arith))
         (which k state is)
 
     -- nor past that of the next
     later_at : (k : ℕ) (state next : D) → slice_get states k ≡ Some state → slice_get states (k + 1) ≡ Some next
-        → moment state ≤ moment next
+        → of_disk.moment state ≤ of_disk.moment next
     later_at k state next is then = ⊎_elim
         (λ early. ⊎_elim
         (λ sooner. before.later k state next sooner.1 early.1)
         (λ last. absurd (omega (arith, early.0, last.0)))
         (which k state is))
-        (λ late. subst (λ s. moment state ≤ moment s) (sym late.1) (past_at k state is))
+        (λ late. subst (λ s. of_disk.moment state ≤ of_disk.moment s) (sym late.1) (past_at k state is))
         (which (k + 1) next then)
 
     -- what a crash might have left at a state counts among what might have been left since
-    stood_at : (k : ℕ) (state : D) (c : Image) → slice_get states k ≡ Some state → may_leave state c
-        → left_since new (moment state) c
-    stood_at k state c is may = ⊎_elim
-        (λ early. since.keeps (moment state) c (before.past k state early.1) (before.stood k state c early.1 may))
-        (λ late. subst (λ s. left_since new (moment s) c) (sym late.1)
-        ((at_now new c).1 (subst (λ s. may_leave s c) late.1 may)))
+    stayed_at : (k : ℕ) (state : D) (c : Image) → slice_get states k ≡ Some state → of_disk.may_leave state c
+        → of_disk.left_since new (of_disk.moment state) c
+    stayed_at k state c is may = ⊎_elim
+        (λ early. since.keeps (of_disk.moment state) c (before.past k state early.1) (before.stayed k state c early.1 may))
+        (λ late. subst (λ s. of_disk.left_since new (of_disk.moment s) c) (sym late.1)
+        ((at_now new c).1 (subst (λ s. of_disk.may_leave s c) late.1 may)))
         (which k state is)
 
-    pub acknowledges_more : Acknowledges seen may_leave moment left_since base (list ++ turn ∷ []) old new
+    pub acknowledges_more : Acknowledges of_disk base (list ++ turn ∷ []) old new
     unfolding states
     acknowledges_more = record {
       states = states;
@@ -204,7 +205,7 @@ module _ {D : Type 0} (seen : D → Option Image) (may_leave : D → Outcomes) (
       told = told_at;
       later = later_at;
       past = past_at;
-      stood = stood_at;
+      stayed = stayed_at;
       shows = shown_at;
       left = left_at;
     }

@@ -1,4 +1,4 @@
--- What a commit is answered in a turn.
+-- The answer to a commit in a turn.
 use Rattle.std.proofs.Common.{◌≡◌, ◌≤◌, ◌+◌, ℕ, Bool, true, false, if◌then◌else◌, List, Option, Some, None}
 use Rattle.std.proofs.Common.{refl, Result, Ok, Err, arith}
 use Rattle.disk_model.specs.Causes.{Rose}

@@ -7,7 +7,7 @@ use Rattle.disk_model.specs.declared.disk.Disk
 use Rattle.disk_model.specs.declared.yard.Build
 use Rattle.disk_model.specs.declared.yard.SealedFile
 use Rattle.disk_model.specs.declared.yard.Yard
-use Rattle.doc_engine.specs.Held.{disk_of, yard_of}
+use Rattle.doc_engine.specs.EngineState.{disk_of, yard_of}
 use Rattle.doc_engine.specs.declared.engine.Engine.{Engine}
 use Rattle.engine_session.specs.Step.{Step}
 use Rattle.transcript.specs.Lines.{content}
@@ -39,7 +39,7 @@ module _ {D Y F B : Type 0} {of_disk : Disk.Ghosts D} {of_yard : Yard.Ghosts Y F
       → Step old asked said new → Stays old new
   step_stays old new (command.Commit ops) said (result, says, has) = record {
     yard = has.rest.yard;
-    later = has.reply.later;
+    later = has.answers.later;
   }
   step_stays old new (command.Search q when.Front) said step = stays_same old new step.1
   step_stays old new (command.Search q (when.At at)) said step = stays_same old new step.1
@@ -72,7 +72,7 @@ module _ {D Y F B : Type 0} {of_disk : Disk.Ghosts D} {of_yard : Yard.Ghosts Y F
         step_stays (engine_of old) (engine_of new) asked answer (steps old asked answer new step)
     line_stays old new (b ∷ line) (Some answer) (inr (inl (quits, bye, same))) = unasked old new same
     line_stays old new (b ∷ line) (Some answer) (inr (inr (inl (refused, same)))) = unasked old new same
-    line_stays old new (b ∷ line) (Some answer) (inr (inr (inr (lacks, same)))) = unasked old new same
+    line_stays old new (b ∷ line) (Some answer) (inr (inr (inr (lacks, stays, same)))) = unasked old new same
 
     pub lines_stay : (old new : S) (exchanges : List Exchange) → s.AnswersLines answers old exchanges new
         → Stays (engine_of old) (engine_of new)

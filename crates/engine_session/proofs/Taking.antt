@@ -10,12 +10,12 @@ use Rattle.disk_model.specs.declared.disk.Disk
 use Rattle.disk_model.specs.declared.yard.Build
 use Rattle.disk_model.specs.declared.yard.SealedFile
 use Rattle.disk_model.specs.declared.yard.Yard
-use Rattle.doc_engine.proofs.Standings.{standing_is_shown}
-use Rattle.doc_engine.specs.Held.{IsAt, disk_of, held_of, journal_of, yard_of}
+use Rattle.doc_engine.proofs.Representations.{represented_is_shown}
+use Rattle.doc_engine.specs.EngineState.{IsAt, disk_of, state_of, journal_of, yard_of}
 use Rattle.doc_engine.specs.Opening.{begins}
-use Rattle.doc_engine.specs.Standing.{ShowsWith, StandsFor}
+use Rattle.doc_engine.specs.Representing.{ShowsWith, RepresentsHistory}
 use Rattle.doc_engine.specs.declared.engine.Engine.{Engine}
-use Rattle.doc_meaning.specs.History.{Base, History, front, merge}
+use Rattle.doc_meaning.specs.History.{Base, History}
 use Rattle.doc_model.specs.declared.entry.Entry.{Entry}
 use Rattle.engine_session.proofs.Crashing.{LeavesNow, acknowledges_more, acknowledges_none, shows_all, shows_more}
 use Rattle.engine_session.proofs.Crashing.{since_more}
@@ -24,8 +24,8 @@ use Rattle.engine_session.proofs.Turning.{down_last, pending_last, same_more}
 use Rattle.engine_session.specs.Attended.{AreCounted, Takes}
 use Rattle.engine_session.specs.Pending.{ShowsFrom, pending_behind, pending_of}
 use Rattle.frame_log.proofs.Stretches.{throughout_still}
-use Rattle.frame_log.specs.Standing.{end_of}
-use Rattle.journal.specs.Standing.{current_log}
+use Rattle.frame_log.specs.LogStates.{end_of}
+use Rattle.journal.specs.JournalStates.{current_log}
 use Rattle.transcript.specs.Legal.{IsTurn}
 use Rattle.transcript.specs.Turns.{Turn, down_after, down_of, entries_of, history_of}
 
@@ -39,7 +39,7 @@ counted_later before now later list le counts k d lt = weaker _ (counts k d lt)
     weaker None told = tt
     weaker (Some count) told = (told.0, omega (arith, told.1, le))
 
--- the count that stands behind turns is one of theirs
+-- the count after turns is one of theirs
 after_counted : (before now : ℕ) (count : Option ℕ) (list : List Turn)
     → IfSome count (λ n. Rose before n × (n ≤ now)) → AreCounted before now list
     → IfSome (down_after count list) (λ n. Rose before n × (n ≤ now))
@@ -50,98 +50,84 @@ after_counted before now count (first ∷ list) is counts =
 
 module _ {D Y F B : Type 0} {of_disk : Disk.Ghosts D} {of_yard : Yard.Ghosts Y F B} {of_file : SealedFile.Ghosts F}
     {of_build : Build.Ghosts B F}
-    (at_now : LeavesNow of_disk.may_leave of_disk.moment of_disk.left_since)
+    (at_now : LeavesNow of_disk)
     (first : Engine D Y F B of_disk of_yard of_file of_build) (base : Base) (longest : ℕ) where
-  -- turns were taken, and nothing is read below a merge timestamp past the front
-  pub record Goes (now : Engine D Y F B of_disk of_yard of_file of_build) (list : List Turn) : Type 0 where
-    pub takes : Takes first now base longest list
-    pub ordered : merge (history_of base list) ≤ front (history_of base list)
-
-  -- each image shows what the logs stand for
+  -- each image shows what the logs represent
   shown_now : (now : Engine D Y F B of_disk of_yard of_file of_build) (h : History) (pending : Option Entry)
-      → StandsFor of_disk.seen of_disk.may_leave (journal_of now) (disk_of now) h pending
+      → RepresentsHistory of_disk (journal_of now) (disk_of now) h pending
       → (c : Image) → of_disk.may_leave (disk_of now) c → ShowsWith h pending c
-  shown_now now h pending stands c may =
-      standing_is_shown of_disk.seen of_disk.may_leave (journal_of now) (disk_of now) h pending c stands may
+  shown_now now h pending represents c may =
+      represented_is_shown of_disk (journal_of now) (disk_of now) h pending c represents may
 
   -- before the first turn
-  pub goes_first : IsAt (held_of first) (begins base) → (held_of first).down ≡ None
-      → end_of (current_log (journal_of first)) ≤ longest → base.merge ≤ base.front → Goes first []
-  goes_first is up ends ordered = record {
-    takes = record {
-      own = λ k d lt. absurd (omega (arith, lt));
-      legal = λ k turn at. absurd (cc);
-      is_at = is;
-      down = up;
-      counts = λ k d lt. absurd (omega (arith, lt));
-      later = omega arith;
-      ends = omega (arith, ends);
-      yard = refl;
-      keeps = λ stands. record {
-        stands = stands;
-        crash = acknowledges_none of_disk.seen of_disk.may_leave of_disk.moment of_disk.left_since at_now base
-            (disk_of first) (stands.stands.each 0 (omega arith)).told (shown_now first (begins base) None stands);
-        since = throughout_still _ _ _ _ (λ c left. (at_now (disk_of first) c).0 left) (λ c left. shows_all base [] 0 c (omega arith)
-            (shown_now first (begins base) None stands c left));
-      };
+  pub takes_first : IsAt (state_of first) (begins base) → (state_of first).down ≡ None
+      → end_of (current_log (journal_of first)) ≤ longest → Takes first first base longest []
+  takes_first is up ends = record {
+    own = λ k d lt. absurd (omega (arith, lt));
+    legal = λ k turn at. absurd (cc);
+    is_at = is;
+    down = up;
+    counts = λ k d lt. absurd (omega (arith, lt));
+    later = omega arith;
+    ends = omega (arith, ends);
+    yard = refl;
+    keeps = λ represents. record {
+      represents = represents;
+      crash = acknowledges_none of_disk at_now base (disk_of first)
+          (represents.represents.each 0 (omega arith)).told (shown_now first (begins base) None represents);
+      since = throughout_still _ _ _ _ (λ c left. (at_now (disk_of first) c).0 left) (λ c left. shows_all base [] 0 c
+          (omega arith) (shown_now first (begins base) None represents c left));
     };
-    ordered = omega (arith, ordered);
   }
 
   module _ (old new : Engine D Y F B of_disk of_yard of_file of_build) (list : List Turn) (turn : Turn)
-      (goes : Goes old list) (own : turn.author ≡ 0) (follows : IsTurn base longest list turn) where
+      (takes : Takes first old base longest list) (own : turn.author ≡ 0) (follows : IsTurn base longest list turn) where
     -- a turn more, by what changed
-    pub goes_more : IsAt (held_of new) (history_of base (list ++ turn ∷ [])) → (held_of new).down ≡ turn.down
+    pub takes_more : IsAt (state_of new) (history_of base (list ++ turn ∷ [])) → (state_of new).down ≡ turn.down
         → IfSome turn.down (λ count. Rose (of_disk.faults (disk_of first)) count
         × (count ≤ of_disk.faults (disk_of new)))
         → of_disk.faults (disk_of old) ≤ of_disk.faults (disk_of new)
         → end_of (current_log (journal_of new))
         ≤ longest + 2 ^ 31 * length (history_of base (list ++ turn ∷ [])).entries
         → yard_of new ≡ yard_of old
-        → merge (history_of base (list ++ turn ∷ [])) ≤ front (history_of base (list ++ turn ∷ []))
-        → (StandsFor of_disk.seen of_disk.may_leave (journal_of old) (disk_of old) (history_of base list)
+        → (RepresentsHistory of_disk (journal_of old) (disk_of old) (history_of base list)
         (pending_of list)
-        → StandsFor of_disk.seen of_disk.may_leave (journal_of new) (disk_of new)
+        → RepresentsHistory of_disk (journal_of new) (disk_of new)
         (history_of base (list ++ turn ∷ [])) (pending_of (list ++ turn ∷ []))
         × Throughout (of_disk.moment (disk_of old)) (of_disk.moment (disk_of new))
         (of_disk.left_since (disk_of old)) (of_disk.left_since (disk_of new))
         (λ c. ShowsFrom base (list ++ turn ∷ []) (length list) c))
-        → Goes new (list ++ turn ∷ [])
-    goes_more is down counted later ends yard ordered keeps =
-        let takes = goes.takes in
+        → Takes first new base longest (list ++ turn ∷ [])
+    takes_more is down counted later ends yard keeps =
         let counted_by : Turn → Type 0 = λ t. IfSome t.down (λ count. Rose (of_disk.faults (disk_of first)) count
         × (count ≤ of_disk.faults (disk_of new))) in
         record {
-          takes = record {
-            own = All-append (λ (t : Turn). t.author ≡ 0) list (turn ∷ []) takes.own
-                (single (λ (t : Turn). t.author ≡ 0) turn own);
-            legal = at_more (IsTurn base longest) list turn takes.legal follows;
-            is_at = is;
-            down = down ∙ sym (down_last None list turn);
-            counts = All-append counted_by list (turn ∷ [])
-                (counted_later _ _ _ list later takes.counts) (single counted_by turn counted);
-            later = omega (arith, takes.later, later);
-            ends = ends;
-            yard = yard ∙ takes.yard;
-            keeps = λ stands.
-                let kept = takes.keeps stands in
-                let step = keeps kept.stands in
-                record {
-                  stands = step.0;
-                  crash = acknowledges_more of_disk.seen of_disk.may_leave of_disk.moment of_disk.left_since at_now
-                      base list turn (disk_of first) (disk_of old) (disk_of new) kept.crash step.1
-                      (step.0.stands.each 0 (omega arith)).told
-                      (shown_now new (history_of base (list ++ turn ∷ [])) (pending_of (list ++ turn ∷ [])) step.0);
-                  since = since_more of_disk.seen of_disk.may_leave of_disk.moment of_disk.left_since at_now base
-                      list turn (disk_of first) (disk_of old) (disk_of new) kept.since step.1;
-                };
-          };
-          ordered = ordered;
+          own = All-append (λ (t : Turn). t.author ≡ 0) list (turn ∷ []) takes.own
+              (single (λ (t : Turn). t.author ≡ 0) turn own);
+          legal = at_more (IsTurn base longest) list turn takes.legal follows;
+          is_at = is;
+          down = down ∙ sym (down_last None list turn);
+          counts = All-append counted_by list (turn ∷ [])
+              (counted_later _ _ _ list later takes.counts) (single counted_by turn counted);
+          later = omega (arith, takes.later, later);
+          ends = ends;
+          yard = yard ∙ takes.yard;
+          keeps = λ represents.
+              let kept = takes.keeps represents in
+              let step = keeps kept.represents in
+              record {
+                represents = step.0;
+                crash = acknowledges_more of_disk at_now base list turn (disk_of first) (disk_of old) (disk_of new)
+                    kept.crash step.1 (step.0.represents.each 0 (omega arith)).told
+                    (shown_now new (history_of base (list ++ turn ∷ [])) (pending_of (list ++ turn ∷ [])) step.0);
+                since = since_more of_disk at_now base list turn (disk_of first) (disk_of old) (disk_of new)
+                    kept.since step.1;
+              };
         }
 
-  -- a turn behind which the engine is the same, and that makes no entry
+  -- a turn after which the engine is the same, and that makes no entry
   module _ (now : Engine D Y F B of_disk of_yard of_file of_build) (list : List Turn) (turn : Turn)
-      (goes : Goes now list) (own : turn.author ≡ 0) (follows : IsTurn base longest list turn)
+      (takes : Takes first now base longest list) (own : turn.author ≡ 0) (follows : IsTurn base longest list turn)
       (none : entries_of turn.call turn.answer ≡ []) (down : turn.down ≡ down_of list)
       (pending : pending_behind (pending_of list) turn.call turn.answer turn.down ≡ pending_of list) where
     same : history_of base (list ++ turn ∷ []) ≡ history_of base list
@@ -150,11 +136,10 @@ module _ {D Y F B : Type 0} {of_disk : Disk.Ghosts D} {of_yard : Yard.Ghosts Y F
     pends : pending_of (list ++ turn ∷ []) ≡ pending_of list
     pends = pending_last None list turn ∙ pending
 
-    pub goes_same : Goes now (list ++ turn ∷ [])
-    goes_same =
-        let takes = goes.takes in
-        goes_more now now list turn goes own follows
-        (subst (λ (h : History). IsAt (held_of now) h) (sym same) takes.is_at)
+    pub takes_same : Takes first now base longest (list ++ turn ∷ [])
+    takes_same =
+        takes_more now now list turn takes own follows
+        (subst (λ (h : History). IsAt (state_of now) h) (sym same) takes.is_at)
         (takes.down ∙ sym down)
         (subst (λ (o : Option ℕ). IfSome o (λ count. Rose (of_disk.faults (disk_of first)) count
         × (count ≤ of_disk.faults (disk_of now)))) (sym down)
@@ -164,13 +149,12 @@ module _ {D Y F B : Type 0} {of_disk : Disk.Ghosts D} {of_yard : Yard.Ghosts Y F
         (subst (λ (h : History). end_of (current_log (journal_of now)) ≤ longest + 2 ^ 31 * length h.entries)
         (sym same) takes.ends)
         refl
-        (subst (λ (h : History). merge h ≤ front h) (sym same) goes.ordered)
-        (λ stands. (
+        (λ represents. (
           subst₂ (λ (h : History) (p : Option Entry).
-              StandsFor of_disk.seen of_disk.may_leave (journal_of now) (disk_of now) h p) (sym same) (sym pends)
-              stands,
+              RepresentsHistory of_disk (journal_of now) (disk_of now) h p) (sym same) (sym pends)
+              represents,
           throughout_still _ _ _ _ (λ c left. (at_now (disk_of now) c).0 left)
               (λ c left. shows_more base list turn (length list) c
               (shows_all base list (length list) c (omega arith)
-              (shown_now now (history_of base list) (pending_of list) stands c left))),
+              (shown_now now (history_of base list) (pending_of list) represents c left))),
         ))

@@ -6,7 +6,7 @@ use Rattle.doc_model.specs.declared.entry.Entry.{Entry}
 use Rattle.engine_session.specs.Pending.{pending_after, pending_behind, pending_of}
 use Rattle.transcript.specs.Turns.{Answer, Event, Turn, down_after, down_of, entries_of, history_of}
 
--- a turn of the client, behind which this count stands
+-- a turn of the client, with the count of faults since which a log is down
 abbrev pub turn_of : Event → Answer → Option ℕ → Turn
 turn_of call answer count = record { author = 0; call = call; answer = answer; down = count }
 

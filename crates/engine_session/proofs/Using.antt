@@ -2,25 +2,27 @@
 use Rattle.std.proofs.Common.{◌≡◌, ◌≢◌, ◌+◌, inl, inr, ℕ, List, [], ◌∷◌, ◌++◌, refl, sym, ◌∙◌, ap}
 use Rattle.std.proofs.Common.{subst, append-nil, append_assoc, Option, Some, None}
 use Rattle.std.specs.List.{flat_map}
+use Rattle.client_lines.proofs.OnlyReading.{asks_no_quit}
 use Rattle.client_run.specs.Sessions as s
 use Rattle.client_run.specs.Sessions.{Exchange}
 use Rattle.disk_model.specs.declared.disk.Disk
 use Rattle.disk_model.specs.declared.yard.Build
 use Rattle.disk_model.specs.declared.yard.SealedFile
 use Rattle.disk_model.specs.declared.yard.Yard
-use Rattle.doc_engine.specs.Held.{held_of}
+use Rattle.doc_engine.specs.EngineState.{state_of}
 use Rattle.doc_engine.specs.declared.engine.Engine.{Engine}
 use Rattle.doc_meaning.specs.History.{Base}
 use Rattle.doc_meaning.specs.Replies.{look_reply}
 use Rattle.doc_model.specs.Operations.{AreOps}
 use Rattle.doc_model.specs.declared.op.Op.{Op}
 use Rattle.doc_model.specs.declared.query.Query.{Query}
-use Rattle.engine_session.proofs.Committing.{commit_turn, goes_commit}
+use Rattle.engine_session.proofs.Committing.{commit_turn, takes_commit}
 use Rattle.engine_session.proofs.Crashing.{LeavesNow}
 use Rattle.engine_session.proofs.Saying.{answer_of, said_is}
-use Rattle.engine_session.proofs.Taking.{Goes, goes_same}
+use Rattle.engine_session.proofs.Taking.{takes_same}
 use Rattle.engine_session.proofs.Turning.{pending_stays, turn_of}
 use Rattle.engine_session.proofs.Wording.{found_at, got_at}
+use Rattle.engine_session.specs.Attended.{Takes}
 use Rattle.engine_session.specs.Step.{Step}
 use Rattle.transcript.proofs.OwnTurnLemmas.{visits-append}
 use Rattle.transcript.specs.Answers as a
@@ -28,7 +30,7 @@ use Rattle.transcript.specs.Commands.{Asks}
 use Rattle.transcript.specs.Lines.{Line, content}
 use Rattle.transcript.specs.OwnTurns.{Looks, TurnAt, turns_behind}
 use Rattle.transcript.specs.Transcript as t
-use Rattle.transcript.specs.Transcript.{Served, SessionState}
+use Rattle.transcript.specs.Transcript.{ServedLine, SessionState}
 use Rattle.transcript.specs.Turns.{Turn, history_of, look, looks}
 use Rattle.transcript.specs.declared.command.Command.{Command}
 use Rattle.transcript.specs.declared.command.Command.TheVariants as command
@@ -47,45 +49,45 @@ asked_ops line ops (inr (uri, has, is_uri, is, are)) = are
 
 module _ {D Y F B : Type 0} {of_disk : Disk.Ghosts D} {of_yard : Yard.Ghosts Y F B} {of_file : SealedFile.Ghosts F}
     {of_build : Build.Ghosts B F}
-    (at_now : LeavesNow of_disk.may_leave of_disk.moment of_disk.left_since)
+    (at_now : LeavesNow of_disk)
     (first : Engine D Y F B of_disk of_yard of_file of_build) (base : Base) (longest : ℕ) where
-  -- how a line is answered, from what its command is
+  -- the reply to a line, from that to its command
   abbrev pub Lines : ℕ → List ℕ → Command → Type 0
   Lines n line asked = (used : List TurnAt) (other : Reply) (m : ℕ)
-      → t.Answers base (state n) asked used other (state m)
+      → t.AnswersCommand base (state n) asked used other (state m)
       → t.AnswersLine base (state n) line used (Some other) (state m)
 
-  -- a line was served: the turns that it used come behind those before
+  -- a line was served: the turns that it used follow those before
   pub record Served1 (new : Engine D Y F B of_disk of_yard of_file of_build) (list : List Turn) (n : ℕ) (line : List ℕ)
       (answer : Option Reply) : Type 0 where
     pub more : List Turn
     pub reads : ℕ
-    pub goes : Goes at_now first base longest new (list ++ more)
+    pub takes : Takes first new base longest (list ++ more)
     pub answers : t.AnswersLine base (state n) line (turns_behind 0 list more) answer (state reads)
 
   -- without a turn
   none_used : (new old : Engine D Y F B of_disk of_yard of_file of_build) (list : List Turn) (n : ℕ) (line : List ℕ)
-      (answer : Option Reply) → Goes at_now first base longest old list → new ≡ old
+      (answer : Option Reply) → Takes first old base longest list → new ≡ old
       → t.AnswersLine base (state n) line [] answer (state n) → Served1 new list n line answer
-  none_used new old list n line answer goes same answers = record {
+  none_used new old list n line answer takes same answers = record {
     more = [];
     reads = n;
-    goes = subst (λ (e : Engine D Y F B of_disk of_yard of_file of_build). Goes at_now first base longest e (list ++ []))
-        (sym same) (subst (λ (g : List Turn). Goes at_now first base longest old g) (sym (append-nil list)) goes);
+    takes = subst (λ (e : Engine D Y F B of_disk of_yard of_file of_build). Takes first e base longest (list ++ []))
+        (sym same) (subst (λ (g : List Turn). Takes first old base longest g) (sym (append-nil list)) takes);
     answers = answers;
   }
 
   module _ (old new : Engine D Y F B of_disk of_yard of_file of_build) (list : List Turn) (n : ℕ) (line : List ℕ)
-      (goes : Goes at_now first base longest old list) where
+      (takes : Takes first old base longest list) where
     -- a commit
     commit_line : (ops : List Op) (answer : Reply) → AreOps ops → Step old (command.Commit ops) answer new
         → Lines n line (command.Commit ops) → Served1 new list n line (Some answer)
     commit_line ops answer asked (result, says, has) lines =
-        let turn = commit_turn at_now first base longest old new ops asked list goes result in
+        let turn = commit_turn at_now first base longest old new ops asked list takes result in
         record {
           more = turn ∷ [];
           reads = n;
-          goes = goes_commit at_now first base longest old new ops asked list goes result has;
+          takes = takes_commit at_now first base longest old new ops asked list takes result has;
           answers = lines (turns_behind 0 list (turn ∷ [])) answer n (
             answer_of result,
             (record { before = list; turn = turn }, refl, refl, refl),
@@ -95,13 +97,13 @@ module _ {D Y F B : Type 0} {of_disk : Disk.Ghosts D} {of_yard : Yard.Ghosts Y F
         }
 
     look_turn : Turn
-    look_turn = turn_of look (looks (look_reply (history_of base list))) (held_of old).down
+    look_turn = turn_of look (looks (look_reply (history_of base list))) (state_of old).down
 
-    look_goes : Goes at_now first base longest old (list ++ look_turn ∷ [])
+    look_takes : Takes first old base longest (list ++ look_turn ∷ [])
     unfolding look_turn
-    look_goes = goes_same at_now first base longest old list look_turn goes refl
-        (record { asked = tt; of_job = tt; answers = inr refl; is_down = goes.takes.down }) refl goes.takes.down
-        (pending_stays list look (looks (look_reply (history_of base list))) (held_of old).down goes.takes.down
+    look_takes = takes_same at_now first base longest old list look_turn takes refl
+        (record { asked = tt; of_job = tt; answers = inr refl; is_down = takes.down }) refl takes.down
+        (pending_stays list look (looks (look_reply (history_of base list))) (state_of old).down takes.down
         (λ n. refl))
 
     -- a command that only looks
@@ -111,8 +113,8 @@ module _ {D Y F B : Type 0} {of_disk : Disk.Ghosts D} {of_yard : Yard.Ghosts Y F
     looked m answer same answers = record {
       more = look_turn ∷ [];
       reads = m;
-      goes = subst (λ (e : Engine D Y F B of_disk of_yard of_file of_build).
-          Goes at_now first base longest e (list ++ look_turn ∷ [])) (sym same) look_goes;
+      takes = subst (λ (e : Engine D Y F B of_disk of_yard of_file of_build).
+          Takes first e base longest (list ++ look_turn ∷ [])) (sym same) look_takes;
       answers = answers;
     }
 
@@ -125,7 +127,7 @@ module _ {D Y F B : Type 0} {of_disk : Disk.Ghosts D} {of_yard : Yard.Ghosts Y F
     lacking : (answer : Reply) → answer ≡ reply.Memory → new ≡ old
         → t.AnswersLine base (state n) line [] (Some reply.Memory) (state n) → Served1 new list n line (Some answer)
     lacking answer wants same lacks =
-        none_used new old list n line (Some answer) goes same
+        none_used new old list n line (Some answer) takes same
         (subst (λ (r : Reply). t.AnswersLine base (state n) line [] (Some r) (state n)) (sym wants) lacks)
 
     -- a search
@@ -136,7 +138,7 @@ module _ {D Y F B : Type 0} {of_disk : Disk.Ghosts D} {of_yard : Yard.Ghosts Y F
         let h = history_of base list in
         let m = n + a.reads_of (command.Search q when.Front) h in
         looked m answer same (lines (turns_behind 0 list (look_turn ∷ [])) answer m
-        (h, looks_here, (says ∙ found_at (held_of old) h q goes.takes.is_at goes.ordered, refl)))
+        (h, looks_here, (says ∙ found_at (state_of old).read h q takes.is_at, refl)))
     search_line q answer (inr wants, same) lines lacks = lacking answer wants same lacks
 
     -- a get
@@ -147,7 +149,7 @@ module _ {D Y F B : Type 0} {of_disk : Disk.Ghosts D} {of_yard : Yard.Ghosts Y F
         let h = history_of base list in
         let m = n + a.reads_of (command.Get uri when.Front) h in
         looked m answer same (lines (turns_behind 0 list (look_turn ∷ [])) answer m
-        (h, looks_here, (says ∙ got_at (held_of old) h uri goes.takes.is_at goes.ordered, refl)))
+        (h, looks_here, (says ∙ got_at (state_of old).read h uri takes.is_at, refl)))
     get_line uri answer (inr wants, same) lines lacks = lacking answer wants same lacks
 
     -- a stamp
@@ -155,40 +157,40 @@ module _ {D Y F B : Type 0} {of_disk : Disk.Ghosts D} {of_yard : Yard.Ghosts Y F
         → Served1 new list n line (Some answer)
     stamp_line answer (says, same) lines =
         let h = history_of base list in
-        let is = goes.takes.is_at in
+        let is = takes.is_at in
         looked n answer same (lines (turns_behind 0 list (look_turn ∷ [])) answer n
         (h, looks_here, says ∙ rw (is.front, is.merge) refl, refl))
 
   -- what a command of a line uses, by its step
   command_line : (old new : Engine D Y F B of_disk of_yard of_file of_build) (list : List Turn) (n : ℕ) (line : List ℕ)
-      (asked : Command) (answer : Reply) → Goes at_now first base longest old list → Asks line asked
+      (asked : Command) (answer : Reply) → Takes first old base longest list → Asks line asked
       → asked ≢ command.Quit → Step old asked answer new → Lines n line asked
       → t.AnswersLine base (state n) line [] (Some reply.Memory) (state n)
       → Served1 new list n line (Some answer)
-  command_line old new list n line (command.Commit ops) answer goes asks differs step lines lacks =
-      commit_line old new list n line goes ops answer (asked_ops line ops asks) step lines
-  command_line old new list n line (command.Get uri when.Front) answer goes asks differs step lines lacks =
-      get_line old new list n line goes uri answer step lines lacks
-  command_line old new list n line (command.Search q when.Front) answer goes asks differs step lines lacks =
-      search_line old new list n line goes q answer step lines lacks
-  command_line old new list n line command.Stamp answer goes asks differs step lines lacks =
-      stamp_line old new list n line goes answer step lines
-  command_line old new list n line command.Quit answer goes asks differs step lines lacks = absurd (differs refl)
-  command_line old new list n line (command.Search q (when.At at)) answer goes asks differs step lines lacks =
+  command_line old new list n line (command.Commit ops) answer takes asks differs step lines lacks =
+      commit_line old new list n line takes ops answer (asked_ops line ops asks) step lines
+  command_line old new list n line (command.Get uri when.Front) answer takes asks differs step lines lacks =
+      get_line old new list n line takes uri answer step lines lacks
+  command_line old new list n line (command.Search q when.Front) answer takes asks differs step lines lacks =
+      search_line old new list n line takes q answer step lines lacks
+  command_line old new list n line command.Stamp answer takes asks differs step lines lacks =
+      stamp_line old new list n line takes answer step lines
+  command_line old new list n line command.Quit answer takes asks differs step lines lacks = absurd (differs refl)
+  command_line old new list n line (command.Search q (when.At at)) answer takes asks differs step lines lacks =
       absurd asks
-  command_line old new list n line (command.Search q when.Pinned) answer goes asks differs step lines lacks =
+  command_line old new list n line (command.Search q when.Pinned) answer takes asks differs step lines lacks =
       absurd asks
-  command_line old new list n line (command.Get uri (when.At at)) answer goes asks differs step lines lacks =
+  command_line old new list n line (command.Get uri (when.At at)) answer takes asks differs step lines lacks =
       absurd asks
-  command_line old new list n line (command.Get uri when.Pinned) answer goes asks differs step lines lacks =
+  command_line old new list n line (command.Get uri when.Pinned) answer takes asks differs step lines lacks =
       absurd asks
-  command_line old new list n line (command.Estimate q when) answer goes asks differs step lines lacks = absurd asks
-  command_line old new list n line (command.Forget to) answer goes asks differs step lines lacks = absurd asks
-  command_line old new list n line command.Pin answer goes asks differs step lines lacks = absurd asks
-  command_line old new list n line command.Unpin answer goes asks differs step lines lacks = absurd asks
-  command_line old new list n line command.Save answer goes asks differs step lines lacks = absurd asks
-  command_line old new list n line command.Merge answer goes asks differs step lines lacks = absurd asks
-  command_line old new list n line command.Revive answer goes asks differs step lines lacks = absurd asks
+  command_line old new list n line (command.Estimate q when) answer takes asks differs step lines lacks = absurd asks
+  command_line old new list n line (command.Forget to) answer takes asks differs step lines lacks = absurd asks
+  command_line old new list n line command.Pin answer takes asks differs step lines lacks = absurd asks
+  command_line old new list n line command.Unpin answer takes asks differs step lines lacks = absurd asks
+  command_line old new list n line command.Save answer takes asks differs step lines lacks = absurd asks
+  command_line old new list n line command.Merge answer takes asks differs step lines lacks = absurd asks
+  command_line old new list n line command.Revive answer takes asks differs step lines lacks = absurd asks
 
   -- a service that answers as the engine does that is in it
   module _ {S : Type 0} (answers : s.Relation S) (engine_of : S → Engine D Y F B of_disk of_yard of_file of_build)
@@ -196,54 +198,54 @@ module _ {D Y F B : Type 0} {of_disk : Disk.Ghosts D} {of_yard : Yard.Ghosts Y F
       → Step (engine_of old) asked said (engine_of new)) where
     -- one line of the session uses what its command uses
     serves_line : (old new : S) (list : List Turn) (n : ℕ) (line : List ℕ) (answer : Option Reply)
-        → Goes at_now first base longest (engine_of old) list → s.AnswersLine answers old line answer new
+        → Takes first (engine_of old) base longest list → s.AnswersLine answers old line answer new
         → Served1 (engine_of new) list n line answer
-    serves_line old new list n [] answer goes (none, same) =
-        none_used (engine_of new) (engine_of old) list n [] answer goes (ap engine_of same) (refl, none, refl)
-    serves_line old new list n (b ∷ line) None goes never = absurd never
-    serves_line old new list n (b ∷ line) (Some answer) goes (inl (asked, asks, differs, step)) =
-        command_line (engine_of old) (engine_of new) list n (b ∷ line) asked answer goes asks differs
+    serves_line old new list n [] answer takes (none, same) =
+        none_used (engine_of new) (engine_of old) list n [] answer takes (ap engine_of same) (refl, none, refl)
+    serves_line old new list n (b ∷ line) None takes never = absurd never
+    serves_line old new list n (b ∷ line) (Some answer) takes (inl (asked, asks, differs, step)) =
+        command_line (engine_of old) (engine_of new) list n (b ∷ line) asked answer takes asks differs
         (steps old asked answer new step) (λ used other m says. inl (asked, asks, inl says))
-        (inr (inr (refl, inl (refl, refl))))
-    serves_line old new list n (b ∷ line) (Some answer) goes (inr (inl (quits, bye, same))) =
-        none_used (engine_of new) (engine_of old) list n (b ∷ line) (Some answer) goes (ap engine_of same)
+        (inr (inr (refl, asks_no_quit (b ∷ line) asked asks differs, inl (refl, refl))))
+    serves_line old new list n (b ∷ line) (Some answer) takes (inr (inl (quits, bye, same))) =
+        none_used (engine_of new) (engine_of old) list n (b ∷ line) (Some answer) takes (ap engine_of same)
         (inl (command.Quit, quits, inl (refl, bye, refl)))
-    serves_line old new list n (b ∷ line) (Some answer) goes (inr (inr (inl (refused, same)))) =
-        none_used (engine_of new) (engine_of old) list n (b ∷ line) (Some answer) goes (ap engine_of same)
+    serves_line old new list n (b ∷ line) (Some answer) takes (inr (inr (inl (refused, same)))) =
+        none_used (engine_of new) (engine_of old) list n (b ∷ line) (Some answer) takes (ap engine_of same)
         (inr (inl (refused, refl, refl)))
-    serves_line old new list n (b ∷ line) (Some answer) goes (inr (inr (inr (lacks, same)))) =
-        none_used (engine_of new) (engine_of old) list n (b ∷ line) (Some answer) goes (ap engine_of same)
-        (inr (inr (lacks, inl (refl, refl))))
+    serves_line old new list n (b ∷ line) (Some answer) takes (inr (inr (inr (lacks, stays, same)))) =
+        none_used (engine_of new) (engine_of old) list n (b ∷ line) (Some answer) takes (ap engine_of same)
+        (inr (inr (lacks, stays, inl (refl, refl))))
 
     -- the lines of a session, in turn
     pub record ServedAll (new : S) (list : List Turn) (n : ℕ) (exchanges : List Exchange) : Type 0 where
       pub more : List Turn
-      pub served : List Served
+      pub served : List ServedLine
       pub reads : ℕ
-      pub goes : Goes at_now first base longest (engine_of new) (list ++ more)
+      pub takes : Takes first (engine_of new) base longest (list ++ more)
       pub answered : t.AnswersLines base (state n) served (state reads)
       pub used : turns_behind 0 list more ≡ flat_map (λ s. s.used) served
       pub lines : t.lines_of served ≡ s.lines_of exchanges
       pub texts : t.texts_of served ≡ s.texts_of exchanges
 
     pub serves_lines : (old new : S) (list : List Turn) (n : ℕ) (exchanges : List Exchange)
-        → Goes at_now first base longest (engine_of old) list → s.AnswersLines answers old exchanges new
+        → Takes first (engine_of old) base longest list → s.AnswersLines answers old exchanges new
         → ServedAll new list n exchanges
-    serves_lines old new list n [] goes same = record {
+    serves_lines old new list n [] takes same = record {
       more = [];
       served = [];
       reads = n;
-      goes = subst (λ (e : S). Goes at_now first base longest (engine_of e) (list ++ [])) (sym same)
-          (subst (λ (g : List Turn). Goes at_now first base longest (engine_of old) g) (sym (append-nil list)) goes);
+      takes = subst (λ (e : S). Takes first (engine_of e) base longest (list ++ [])) (sym same)
+          (subst (λ (g : List Turn). Takes first (engine_of old) base longest g) (sym (append-nil list)) takes);
       answered = refl;
       used = refl;
       lines = refl;
       texts = refl;
     }
-    serves_lines old new list n (exchange ∷ others) goes (mid, here, behind) =
-        let one = serves_line old mid list n (content exchange.line) exchange.answer goes here in
-        let rest = serves_lines mid new (list ++ one.more) one.reads others one.goes behind in
-        let served : Served = record {
+    serves_lines old new list n (exchange ∷ others) takes (mid, here, behind) =
+        let one = serves_line old mid list n (content exchange.line) exchange.answer takes here in
+        let rest = serves_lines mid new (list ++ one.more) one.reads others one.takes behind in
+        let served : ServedLine = record {
           line = exchange.line;
           used = turns_behind 0 list one.more;
           answer = exchange.answer;
@@ -252,8 +254,8 @@ module _ {D Y F B : Type 0} {of_disk : Disk.Ghosts D} {of_yard : Yard.Ghosts Y F
           more = one.more ++ rest.more;
           served = served ∷ rest.served;
           reads = rest.reads;
-          goes = subst (λ (g : List Turn). Goes at_now first base longest (engine_of new) g)
-              (append_assoc list one.more rest.more) rest.goes;
+          takes = subst (λ (g : List Turn). Takes first (engine_of new) base longest g)
+              (append_assoc list one.more rest.more) rest.takes;
           answered = (state one.reads, one.answers, rest.answered);
           used = visits-append 0 list one.more rest.more
               ∙ ap (λ (vs : List TurnAt). turns_behind 0 list one.more ++ vs) rest.used;

@@ -1,31 +1,53 @@
--- The entry that a broken append may have left behind turns, and what a crash leaves since each of them.
+-- The entry that a broken append may have left after turns, and what a crash leaves since each of them.
 use Rattle.std.specs.Prelude.{ℕ, ◌≡◌, ◌+◌, ◌≤◌, List, [], ◌∷◌, length, take, slice_get, Option, Some, None, IsSome}
-use Rattle.disk_model.specs.Logs.{Image, Outcomes}
-use Rattle.doc_engine.specs.Standing.{ShowsWith}
+use Rattle.disk_model.specs.Logs.{Image}
+use Rattle.disk_model.specs.declared.disk.Disk
+use Rattle.doc_engine.specs.Representing.{ShowsWith}
 use Rattle.doc_meaning.specs.History.{Base}
 use Rattle.doc_model.specs.declared.entry.Entry.{Entry}
 use Rattle.doc_model.specs.declared.entry.Entry.TheVariants as entry
-use Rattle.transcript.specs.Turns.{Answer, Event, Turn, commit, fault, forget, history_of, revive}
+use Rattle.transcript.specs.Turns.{Event, commit, forget, look, wish, start_save, start_merge, install_save}
+use Rattle.transcript.specs.Turns.{install_merge, abandon, tidy, revive}
+use Rattle.transcript.specs.Turns.{Answer, commits, forgets, looks, starts, done, revives, down, busy, owed, nothing}
+use Rattle.transcript.specs.Turns.{spent, fault, memory}
+use Rattle.transcript.specs.Turns.{Turn, history_of}
 
--- the entry that an event would make
-abbrev pub made_by : Event → Option Entry
-made_by (commit ops) = Some (entry.Commit ops)
-made_by (forget to) = Some (entry.Forget to)
-made_by _ = None
+-- the entry that may be left by an event that met a fault: its own, or at a revive the earlier one
+abbrev pub broken_off : Option Entry → Event → Option Entry
+broken_off earlier (commit ops) = Some (entry.Commit ops)
+broken_off earlier (forget to) = Some (entry.Forget to)
+broken_off earlier look = None
+broken_off earlier (wish which) = None
+broken_off earlier start_save = None
+broken_off earlier start_merge = None
+broken_off earlier (install_save job) = None
+broken_off earlier (install_merge job) = None
+broken_off earlier (abandon job) = None
+broken_off earlier tidy = None
+broken_off earlier revive = earlier
 
--- what may be left behind a turn: nothing where no log fault stands; the entry whose fault took the log down, also
--- behind a revive that failed
+-- the entry that may be left after a turn: none while no log is down, else the one whose fault took the log down
 abbrev pub pending_behind : Option Entry → Event → Answer → Option ℕ → Option Entry
 pending_behind earlier call answer None = None
-pending_behind earlier revive fault (Some count) = earlier
-pending_behind earlier call fault (Some count) = made_by call
-pending_behind earlier call _ (Some count) = earlier
+pending_behind earlier call (commits reply) (Some count) = earlier
+pending_behind earlier call (forgets reply) (Some count) = earlier
+pending_behind earlier call (looks reply) (Some count) = earlier
+pending_behind earlier call (starts job) (Some count) = earlier
+pending_behind earlier call done (Some count) = earlier
+pending_behind earlier call (revives at) (Some count) = earlier
+pending_behind earlier call (down since) (Some count) = earlier
+pending_behind earlier call (busy job) (Some count) = earlier
+pending_behind earlier call (owed files) (Some count) = earlier
+pending_behind earlier call (nothing number) (Some count) = earlier
+pending_behind earlier call (spent number) (Some count) = earlier
+pending_behind earlier call fault (Some count) = broken_off earlier call
+pending_behind earlier call memory (Some count) = earlier
 
 abbrev pub pending_after : Option Entry → List Turn → Option Entry
 pending_after earlier [] = earlier
 pending_after earlier (turn ∷ turns) = pending_after (pending_behind earlier turn.call turn.answer turn.down) turns
 
--- the entry that may be left behind turns
+-- the entry that may be left after turns
 abbrev pub pending_of : List Turn → Option Entry
 pending_of turns = pending_after None turns
 
@@ -36,23 +58,23 @@ pub record ShowsFrom (base : Base) (turns : List Turn) (least : ℕ) (image : Im
   pub some : count ≤ length turns
   pub shows : ShowsWith (history_of base (take count turns)) (pending_of (take count turns)) image
 
--- behind each turn the disk stood at some state, one after the other: in it each image shows the history of the turns
--- up to it, or it with the entry that was broken off; and a crash since then leaves that history at least. The first
--- state is the one before all turns, the last one is now
-pub record Acknowledges {D : Type 0} (seen : D → Option Image) (may_leave : D → Outcomes) (moment : D → ℕ)
-    (left_since : D → ℕ → Outcomes) (base : Base) (turns : List Turn) (old new : D) : Type 0 where
+-- the disk had a state after each turn, one after the other: in it each image shows the history of the turns up to it,
+-- or it with the entry that was broken off; and a crash since then leaves that history at least. The first state is the
+-- one before all turns, the last one is now
+pub record Acknowledges {D : Type 0} (of_disk : Disk.Ghosts D) (base : Base) (turns : List Turn) (old new : D)
+    : Type 0 where
   pub states : List D
   pub each : length states ≡ length turns + 1
   pub first : slice_get states 0 ≡ Some old
   pub last : slice_get states (length turns) ≡ Some new
-  pub told : (k : ℕ) (state : D) → slice_get states k ≡ Some state → IsSome (seen state)
+  pub told : (k : ℕ) (state : D) → slice_get states k ≡ Some state → IsSome (of_disk.seen state)
   pub later : (k : ℕ) (state next : D) → slice_get states k ≡ Some state → slice_get states (k + 1) ≡ Some next
-      → moment state ≤ moment next
-  pub past : (k : ℕ) (state : D) → slice_get states k ≡ Some state → moment state ≤ moment new
+      → of_disk.moment state ≤ of_disk.moment next
+  pub past : (k : ℕ) (state : D) → slice_get states k ≡ Some state → of_disk.moment state ≤ of_disk.moment new
   -- what a crash might have left then counts among what might have been left since
-  pub stood : (k : ℕ) (state : D) (c : Image) → slice_get states k ≡ Some state → may_leave state c
-      → left_since new (moment state) c
-  pub shows : (k : ℕ) (state : D) (c : Image) → slice_get states k ≡ Some state → may_leave state c
+  pub stayed : (k : ℕ) (state : D) (c : Image) → slice_get states k ≡ Some state → of_disk.may_leave state c
+      → of_disk.left_since new (of_disk.moment state) c
+  pub shows : (k : ℕ) (state : D) (c : Image) → slice_get states k ≡ Some state → of_disk.may_leave state c
       → ShowsWith (history_of base (take k turns)) (pending_of (take k turns)) c
-  pub left : (k : ℕ) (state : D) (c : Image) → slice_get states k ≡ Some state → left_since new (moment state) c
+  pub left : (k : ℕ) (state : D) (c : Image) → slice_get states k ≡ Some state → of_disk.left_since new (of_disk.moment state) c
       → ShowsFrom base turns k c

@@ -1,31 +1,26 @@
 -- How an engine answers a command.
-use Rattle.std.specs.FinMap.{get}
 use Rattle.std.specs.Option.{option_map_or}
-use Rattle.std.specs.Prelude.{ℕ, ◌≡◌, ◌⊎◌, ◌+◌, List, None, Result, Ok, Err, IfErr}
+use Rattle.std.specs.Prelude.{ℕ, ◌≡◌, ◌⊎◌, List, Result, Ok, Err}
 use Rattle.disk_model.specs.declared.disk.Disk
 use Rattle.disk_model.specs.declared.yard.Build
 use Rattle.disk_model.specs.declared.yard.SealedFile
 use Rattle.disk_model.specs.declared.yard.Yard
-use Rattle.doc_engine.specs.Calls.{Commits, Enters, Grows, KeepsRest, UnlessFault}
-use Rattle.doc_engine.specs.Checks.{end_with}
-use Rattle.doc_engine.specs.Held.{IsAt, Seen, disk_of, held_of, journal_of, seen_of}
-use Rattle.doc_engine.specs.Standing.{StandsFor}
+use Rattle.doc_engine.specs.Calls.{AnswersCommit, GrowsByCommit, KeepsRest, SameUnlessFault, SurvivesCommit}
+use Rattle.doc_engine.specs.EngineState.{ReadState, state_of}
+use Rattle.doc_engine.specs.Reads.{get_seen, search_seen}
 use Rattle.doc_engine.specs.declared.engine.Engine.{Engine}
 use Rattle.doc_engine.specs.declared.refusal.CommitRefusal.{CommitRefusal}
 use Rattle.doc_engine.specs.declared.refusal.CommitRefusal.TheVariants as refusal
-use Rattle.doc_meaning.specs.Answers.{answer_in}
-use Rattle.doc_meaning.specs.History.{History}
-use Rattle.doc_model.specs.Queries.{broken_query_rule}
 use Rattle.doc_model.specs.declared.op.Op.{Op}
 use Rattle.doc_model.specs.declared.query.Query.{Query}
-use Rattle.transcript.specs.Answers.{reply_to_bad, reply_of_version}
+use Rattle.transcript.specs.Answers.{reply_of_version, reply_to_read}
 use Rattle.transcript.specs.declared.command.Command.{Command}
 use Rattle.transcript.specs.declared.command.Command.TheVariants as command
-use Rattle.transcript.specs.declared.command.When.TheVariants.{Front}
+use Rattle.transcript.specs.declared.command.When.TheVariants as when
 use Rattle.transcript.specs.declared.reply.Reply.{Reply}
 use Rattle.transcript.specs.declared.reply.Reply.TheVariants as reply
 
--- the reply that a commit's answer gives
+-- the reply to a commit, by its result
 abbrev pub said_of : Result ℕ CommitRefusal → Reply
 said_of (Ok at) = reply.Ok at
 said_of (Err (refusal.Down faults)) = reply.Down
@@ -35,40 +30,53 @@ said_of (Err (refusal.Spent front end)) = reply.Spent front
 said_of (Err refusal.Fault) = reply.Fault
 said_of (Err refusal.Memory) = reply.Memory
 
--- the reply to a search at the front of what is seen: what is found, or the rule that the query breaks
-abbrev pub found_of : Seen → Query → Reply
-found_of seen q = option_map_or reply_to_bad (broken_query_rule q seen.settings.indexes)
-    (reply.Found seen.front seen.front (answer_in seen.documents q))
+-- the reply to a search at the front of what is seen
+abbrev pub found_of : ReadState → Query → Reply
+found_of seen q = reply_to_read (λ uris. reply.Found seen.front seen.front uris) (search_seen seen q)
 
--- the reply to a get at the front of what is seen: the live version, or that there is none
-abbrev pub got_of : Seen → List ℕ → Reply
-got_of seen uri = option_map_or (reply_of_version seen.front seen.front) (get seen.documents uri)
-    (reply.NoDoc seen.front seen.front)
+-- the reply to a get at the front of what is seen
+abbrev pub got_of : ReadState → List ℕ → Reply
+got_of seen uri = reply_to_read
+    (λ found. option_map_or (reply_of_version seen.front seen.front) found (reply.NoDoc seen.front seen.front))
+    (get_seen seen uri)
 
 module _ {D Y F B : Type 0} {of_disk : Disk.Ghosts D} {of_yard : Yard.Ghosts Y F B} {of_file : SealedFile.Ghosts F}
     {of_build : Build.Ghosts B F} where
-  -- a commit was asked of the engine, and answered so
+  -- a commit was asked of the engine, with this result
   pub record HasCommitted (old new : Engine D Y F B of_disk of_yard of_file of_build) (ops : List Op)
       (result : Result ℕ CommitRefusal) : Type 0 where
-    pub reply : Commits (held_of old) (held_of new) (of_disk.faults (disk_of old)) (of_disk.faults (disk_of new))
-        (end_with (journal_of old) ((held_of old).front + 1) ops) ops result
-    pub growth : Grows (journal_of old) (journal_of new) ((held_of old).front + 1) ops result
-    pub unchanged : IfErr result (λ why. UnlessFault why (new ≡ old))
+    pub answers : AnswersCommit old new ops result
+    pub growth : GrowsByCommit old new ops result
+    pub unchanged : SameUnlessFault old new result
     pub rest : KeepsRest old new result
-    pub crash : (h : History) → IsAt (held_of old) h
-        → StandsFor of_disk.seen of_disk.may_leave (journal_of old) (disk_of old) h None
-        → Enters of_disk.seen of_disk.may_leave of_disk.moment of_disk.left_since (journal_of new) (disk_of old)
-        (disk_of new) h ops result
+    pub crash : SurvivesCommit old new ops result
 
-  -- commits, gets and searches at the front, and stamps are asked of the engine; all else is answered `later`. Want of
-  -- memory is free where nothing is committed
+  -- the engine isn't asked
+  abbrev pub Later : Engine D Y F B of_disk of_yard of_file of_build → Reply
+      → Engine D Y F B of_disk of_yard of_file of_build → Type 0
+  Later old said new = (said ≡ reply.Later) × (new ≡ old)
+
+  -- commits, gets and searches at the front, and stamps are asked of the engine; the reply to all else is `later`. Want
+  -- of memory is free where nothing is committed
   abbrev pub Step : Engine D Y F B of_disk of_yard of_file of_build → Command → Reply
       → Engine D Y F B of_disk of_yard of_file of_build → Type 0
   Step old (command.Commit ops) said new =
       (result : Result ℕ CommitRefusal) × (said ≡ said_of result) × HasCommitted old new ops result
-  Step old (command.Get uri Front) said new =
-      ((said ≡ got_of (seen_of (held_of old)) uri) ⊎ (said ≡ reply.Memory)) × (new ≡ old)
-  Step old (command.Search q Front) said new =
-      ((said ≡ found_of (seen_of (held_of old)) q) ⊎ (said ≡ reply.Memory)) × (new ≡ old)
-  Step old command.Stamp said new = (said ≡ reply.Stamp (held_of old).front (held_of old).merge) × (new ≡ old)
-  Step old _ said new = (said ≡ reply.Later) × (new ≡ old)
+  Step old (command.Get uri when.Front) said new =
+      ((said ≡ got_of (state_of old).read uri) ⊎ (said ≡ reply.Memory)) × (new ≡ old)
+  Step old (command.Get uri (when.At at)) said new = Later old said new
+  Step old (command.Get uri when.Pinned) said new = Later old said new
+  Step old (command.Search q when.Front) said new =
+      ((said ≡ found_of (state_of old).read q) ⊎ (said ≡ reply.Memory)) × (new ≡ old)
+  Step old (command.Search q (when.At at)) said new = Later old said new
+  Step old (command.Search q when.Pinned) said new = Later old said new
+  Step old (command.Estimate q at) said new = Later old said new
+  Step old command.Stamp said new =
+      (said ≡ reply.Stamp (state_of old).read.front (state_of old).read.merge) × (new ≡ old)
+  Step old (command.Forget to) said new = Later old said new
+  Step old command.Pin said new = Later old said new
+  Step old command.Unpin said new = Later old said new
+  Step old command.Save said new = Later old said new
+  Step old command.Merge said new = Later old said new
+  Step old command.Revive said new = Later old said new
+  Step old command.Quit said new = Later old said new

@@ -1,4 +1,5 @@
-// A service over a state, by a closure.
+//! A service over a state, by a closure.
+
 use client_run::Service;
 use transcript::{Command, Reply};
 

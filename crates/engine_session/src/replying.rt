@@ -1,6 +1,7 @@
-// How an engine answers the commands of a session.
+//! How an engine answers the commands of a session.
+
 ghost use Rattle.std.specs.Prelude.{◌≡◌};
-ghost use Rattle.doc_engine.specs.Held.{view_of};
+ghost use Rattle.doc_engine.specs.EngineState.{view_of};
 ghost use Rattle.engine_session.specs.Step.{Step};
 ghost use Rattle.transcript.specs.declared.reply.Reply.TheVariants as reply;
 
@@ -16,8 +17,8 @@ use searches::search;
 use std::alloc::Global;
 use transcript::{Command, Reply, When};
 
-/// The reply to a command. Commits, and gets, searches and stamps at the front are asked of the engine; it costs what
-/// they cost.
+/// The reply to a command. It asks the engine for commits, for gets and searches at the front, and for stamps, and costs
+/// what they cost.
 pub(crate) fn reply<D: Disk, Y: Yard>(
     alloc: Global,
     engine: &mut Engine<D, Y>,
@@ -36,7 +37,22 @@ pub(crate) fn reply<D: Disk, Y: Yard>(
             when: When::Front,
         } => search(alloc, &engine.look(), &query),
         Command::Stamp => stamp(&engine.look()),
-        _ => Reply::Later,
+        Command::Get {
+            when: When::At(_) | When::Pinned,
+            ..
+        }
+        | Command::Search {
+            when: When::At(_) | When::Pinned,
+            ..
+        }
+        | Command::Estimate { .. }
+        | Command::Forget(_)
+        | Command::Pin
+        | Command::Unpin
+        | Command::Save
+        | Command::Merge
+        | Command::Revive
+        | Command::Quit => Reply::Later,
     }
 }
 

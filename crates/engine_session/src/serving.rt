@@ -1,15 +1,9 @@
-// A session with an engine.
-ghost use Rattle.std.specs.Prelude.{◌≡◌, ◌≤◌, ℕ, Bool, None, IsTrue, List};
-ghost use Rattle.std.specs.Io.KnownBytes.{Consumes, Appends, IsAtEnd};
-ghost use Rattle.disk_model.specs.Causes.{Rose};
-ghost use Rattle.doc_engine.specs.Held.{IsAt, disk_of, held_of, journal_of, yard_of};
-ghost use Rattle.doc_engine.specs.Opening.{begins};
-ghost use Rattle.doc_meaning.specs.History.{Base, IsBase};
-ghost use Rattle.engine_session.specs.Attended.{Attended};
-ghost use Rattle.engine_session.specs.Ended.{HasEnded};
+//! A session with an engine.
+
+ghost use Rattle.std.specs.Prelude.{◌≡◌, ◌≤◌};
+ghost use Rattle.doc_engine.specs.EngineState.{disk_of, yard_of};
+ghost use Rattle.engine_session.specs.Attended.{ServesLines};
 ghost use Rattle.engine_session.specs.Step.{Step};
-ghost use Rattle.frame_log.specs.Standing.{end_of};
-ghost use Rattle.journal.specs.Standing.{current_log};
 
 use crate::answering::Answering;
 use crate::replying::reply;
@@ -21,7 +15,7 @@ use transcript::{Command, Reply, SessionEnd};
 
 /// Serves a client's lines with an engine, and gives the engine back.
 ///
-/// It takes the memory of a session, and each line takes what its command takes of the engine.
+/// It takes the memory of a session, and each line costs what its command costs of the engine.
 pub fn serve<R, D: Disk, Y: Yard, I: Source, W: Sink>(
     rt: &R,
     alloc: Global,
@@ -29,18 +23,9 @@ pub fn serve<R, D: Disk, Y: Yard, I: Source, W: Sink>(
     source: &mut I,
     sink: &mut W,
 ) -> (Engine<D, Y>, SessionEnd)
-    ensures attended { (input : List ℕ) × (output : List ℕ) × (over : Bool)
-        × Consumes (I.left source.old) (I.left source.new) input
-        × Appends (W.written sink.old) (W.written sink.new) output
-        × (IsTrue over → IsAtEnd (I.left source.new))
-        × HasEnded input output over result.1
-        × ((base : Base) (longest : ℕ) → IsBase base → IsAt (held_of engine) (begins base)
-        → (held_of engine).down ≡ None → end_of (current_log (journal_of engine)) ≤ longest
-        → Attended engine result.0 base longest input output over result.1) }
+    ensures serves { ServesLines I.Source W.Sink source.old source.new sink.old sink.new engine result.0 result.1 }
     ensures yard { yard_of result.0 ≡ yard_of engine }
     ensures later { D.faults (disk_of engine) ≤ D.faults (disk_of result.0) }
-    ensures read_fault { result.1 ≡ SessionEnd.ReadFault → Rose (I.faults source.old) (I.faults source.new) }
-    ensures write_fault { result.1 ≡ SessionEnd.WriteFault → Rose (W.faults sink.old) (W.faults sink.new) }
 {
     let mut service = Answering {
         state: engine,

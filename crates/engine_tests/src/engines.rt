@@ -1,4 +1,5 @@
-// Commits that are refused, and a fault.
+//! Commits that are refused, and a fault.
+
 mod commits;
 mod faults;
 

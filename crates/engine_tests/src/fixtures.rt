@@ -1,4 +1,5 @@
-// Settings, documents, operations and queries.
+//! Settings, documents, operations and queries.
+
 ghost use Rattle.std.specs.Prelude.{◌≡◌, [], IfOk, IsTrue};
 ghost use Rattle.doc_model.specs.Operations.{removes_uri};
 

@@ -1,4 +1,5 @@
-// The live documents beside the plain history of the same entries.
+//! The live documents beside the plain history of the same entries.
+
 ghost use Rattle.std.specs.Prelude.{IfOk, IsTrue};
 ghost use Rattle.std.specs.List.{list_all};
 ghost use Rattle.doc_model.specs.Operations.{removes_uri};
@@ -46,7 +47,7 @@ fn second_commit(alloc: Global) -> Result<Ops, Fail> {
     Ok(Ops::new(list)?)
 }
 
-// The history of both commits, and of a forget behind them.
+// The history of both commits, and of a forget after them.
 fn history(alloc: Global) -> Result<History, Fail> {
     let mut history = History::new(alloc, plain_settings(alloc));
     history.push(Entry::Commit(first_commit(alloc)?))?;

@@ -69,7 +69,7 @@ module _ (front : List ℕ) (gate : ℕ) (behind : List ℕ) (end : ℕ) (at_end
   gate_written byte = ap (λ (l : List ℕ). l ++ (byte ∷ []) ++ drop (end + 1) (front ++ gate ∷ behind)) before
       ∙ ap (λ (l : List ℕ). front ++ (byte ∷ []) ++ l) past_gate ∙ append_assoc front (byte ∷ []) behind
 
-  -- whatever is written behind the gate, it stands
+  -- a write behind the gate leaves the gate
   pub behind_written : (more rest : List ℕ) → take (end + 1) (front ++ gate ∷ behind) ++ more ++ rest ≡ front ++ gate
       ∷ (more ++ rest)
   behind_written more rest = ap (λ (l : List ℕ). l ++ more ++ rest) with_gate ∙ append_assoc (front ++ gate ∷ [])

@@ -12,7 +12,7 @@ use Rattle.frame_log.proofs.Bytes.{length-sized}
 pub further : (bytes : List ℕ) (place k n : ℕ) → take n (drop (place + k) bytes) ≡ take n (drop k (drop place bytes))
 further bytes place k n = ap (λ (l : List ℕ). take n l) (sym (drop-drop k place bytes))
 
--- the length of a frame that lies whole there
+-- the length of a frame that is whole there
 size_of : (behind body rest : List ℕ) → behind ≡ sized body ++ rest → length body < 2 ^ 64 → from_be_bytes w64
     (take 8 behind) ≡ length body
 size_of behind body rest is fits =

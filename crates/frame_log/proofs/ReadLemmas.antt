@@ -1,9 +1,10 @@
 -- Reading on behind what was read.
-use Rattle.std.proofs.Common.{◌≡◌, ◌≤◌, ◌+◌, ◌∙◌, inl, refl, sym, ap, ℕ, List, ◌++◌, length, take, drop, Option, Some, None, IfSome, arith}
+use Rattle.std.proofs.Common.{◌≡◌, ◌≤◌, ◌+◌, ◌∙◌, refl, sym, ap, ℕ, List, ◌++◌, length, take, drop, Option, Some, None, IfSome, arith}
 use Rattle.std.proofs.lemmas.List.{take-append-drop, take-take, drop-take, drop-drop, take-append-le, length-take-le}
 use Rattle.std.proofs.Math.Seq.{take-append-add}
-use Rattle.disk_model.specs.Logs.{Image, Outcomes}
-use Rattle.frame_log.specs.Standing.{OnlyRead}
+use Rattle.disk_model.specs.Logs.{Image}
+use Rattle.disk_model.specs.Stretches.{OnlyRead}
+use Rattle.disk_model.specs.declared.disk.Disk
 use Rattle.frame_log.specs.Scanned.{IsRead}
 use Rattle.frame_log.proofs.Stretches.{throughout_still, throughout_weaker, throughout_then}
 
@@ -41,29 +42,30 @@ read_on bytes place done count out tail rest fits whole next is =
     ∙ ap (λ (x : List ℕ). x ++ take count (drop done (drop place bytes))) is
     ∙ sym (take_two done count (drop place bytes))
 
-module _ {D : Type 0} (seen : D → Option Image) (may_leave : D → Outcomes) (moment : D → ℕ)
-    (left_since : D → ℕ → Outcomes) where
-  pub only_read_same : (disk : D) → ((c : Image) → left_since disk (moment disk) c → may_leave disk c) → OnlyRead
-      seen may_leave moment left_since disk disk
+module _ {D : Type 0} (of_disk : Disk.Ghosts D) where
+  pub only_read_same : (disk : D) → ((c : Image) → of_disk.left_since disk (of_disk.moment disk) c
+      → of_disk.may_leave disk c) → OnlyRead
+      of_disk disk disk
   only_read_same disk only = record {
     same = refl;
     fewer = λ c left. left;
     images = throughout_still _ _ _ _ only (λ c may. may);
   }
 
-  pub only_read_more : (old mid new : D) → OnlyRead seen may_leave moment left_since old mid → OnlyRead seen
-      may_leave moment left_since mid new → OnlyRead seen may_leave moment left_since old new
+  pub only_read_more : (old mid new : D) → OnlyRead of_disk old mid → OnlyRead of_disk mid new
+      → OnlyRead of_disk old new
   only_read_more old mid new first second = record {
     same = second.same ∙ first.same;
     fewer = λ c left. first.fewer c (second.fewer c left);
-    images = throughout_then _ _ _ _ _ _ _ first.images (throughout_weaker _ _ _ _ (may_leave mid) (may_leave old)
+    images = throughout_then _ _ _ _ _ _ _ first.images
+        (throughout_weaker _ _ _ _ (of_disk.may_leave mid) (of_disk.may_leave old)
         second.images first.fewer);
   }
 
   -- how far a read has come
-  pub record IsFilled (faults : D → ℕ) (first now : D) (file place done : ℕ) (was out : List ℕ) : Type 0 where
-    pub read : OnlyRead seen may_leave moment left_since first now
+  pub record IsFilled (first now : D) (file place done : ℕ) (was out : List ℕ) : Type 0 where
+    pub read : OnlyRead of_disk first now
     pub len : length out ≡ length was
     pub within : done ≤ length out
-    pub bytes : IfSome (seen first) (λ image. IsRead (image file) place done out)
-    pub later : faults first ≤ faults now
+    pub bytes : IfSome (of_disk.seen first) (λ image. IsRead (image file) place done out)
+    pub later : of_disk.faults first ≤ of_disk.faults now

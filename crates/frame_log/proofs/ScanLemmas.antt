@@ -3,29 +3,29 @@ use Rattle.std.proofs.Common.{◌≡◌, ◌≤◌, ◌<◌, ◌^◌, ◌+◌, �
 use Rattle.std.specs.Prelude.{IsErrAnd}
 use Rattle.std.specs.declared.alloc.Global.{Global}
 use Rattle.std.proofs.lemmas.List.{drop-drop, drop_at}
-use Rattle.disk_model.specs.Logs.{Image, Outcomes, Settled}
+use Rattle.disk_model.specs.Logs.{Image, CrashImages, Settled}
 use Rattle.frame_log.specs.Frames.{framed, open_frame, HasFrames}
-use Rattle.frame_log.specs.Standing.{OnlyRead}
+use Rattle.disk_model.specs.Stretches.{OnlyRead}
+use Rattle.disk_model.specs.declared.disk.Disk
 use Rattle.frame_log.specs.Scanned.{EndsAt, BeginsWith, NotNext, NotScanned, Scans}
 use Rattle.frame_log.specs.declared.log.Log.{Log}
 use Rattle.frame_log.specs.declared.refusal.ScanRefusal.{ScanRefusal}
 use Rattle.frame_log.specs.declared.refusal.ScanRefusal.TheVariants.{Fault, Damaged, Memory}
 use Rattle.frame_log.proofs.Bytes.{framed-push, length-sized}
 
--- these frames were read, and the next gate stands here
+-- these frames were read, and the next gate is here
 pub record IsSeen (bodies : List (List ℕ)) (end len : ℕ) (bytes : List ℕ) : Type 0 where
   pub all : len ≡ length bytes
   pub front : bytes ≡ framed bodies ++ drop end bytes
 
-pub record IsScanned {D : Type 0} (seen : D → Option Image) (may_leave : D → Outcomes) (moment : D → ℕ)
-    (left_since : D → ℕ → Outcomes)
-    (faults : D → ℕ) (first now : D) (file len end : ℕ) (bodies : List (List ℕ)) : Type 0 where
-  pub read : OnlyRead seen may_leave moment left_since first now
-  pub later : faults first ≤ faults now
+pub record IsScanned {D : Type 0} (of_disk : Disk.Ghosts D) (first now : D) (file len end : ℕ)
+    (bodies : List (List ℕ)) : Type 0 where
+  pub read : OnlyRead of_disk first now
+  pub later : of_disk.faults first ≤ of_disk.faults now
   pub inside : end < len
   pub short : len ≤ 2 ^ 62
   pub at_end : end ≡ length (framed bodies)
-  pub told : IfSome (seen first) (λ image. IsSeen bodies end len (image file))
+  pub told : IfSome (of_disk.seen first) (λ image. IsSeen bodies end len (image file))
 
 pub seen_first : (bytes : List ℕ) (len : ℕ) → len ≡ length bytes → IsSeen [] 0 len bytes
 seen_first bytes len all = record { all = all; front = refl }
@@ -80,7 +80,7 @@ scans_err seen file (Ok found) is then = absurd is
 scans_err seen file (Err e) is then = then e is
 
 -- where each image has what is read, each has the frames
-pub settled_frames : (seen : Option Image) (may_leave : Outcomes) (file : ℕ) (bodies : List (List ℕ)) → IsSome seen →
+pub settled_frames : (seen : Option Image) (may_leave : CrashImages) (file : ℕ) (bodies : List (List ℕ)) → IsSome seen →
     IfSome seen (λ image. HasFrames bodies (image file))
     → Settled file seen may_leave → (c : Image) → may_leave c → HasFrames bodies (c file)
 settled_frames None may_leave file bodies told has settled c left = absurd (cc)

@@ -1,10 +1,10 @@
 -- Stretches of time, one after the other.
 use Rattle.std.proofs.Common.{inl, inr, ⊎_elim, ℕ, arith}
-use Rattle.disk_model.specs.Logs.{Image, Outcomes}
+use Rattle.disk_model.specs.Logs.{Image, CrashImages}
 use Rattle.disk_model.specs.Moments.{Throughout}
 
 -- no time passed
-pub throughout_still : (now : ℕ) (since : ℕ → Outcomes) (may_leave : Outcomes) (P : Image → Type 0)
+pub throughout_still : (now : ℕ) (since : ℕ → CrashImages) (may_leave : CrashImages) (P : Image → Type 0)
     → ((c : Image) → since now c → may_leave c) → ((c : Image) → may_leave c → P c) → Throughout now now since since P
 throughout_still now since may_leave P only is = record {
   later = omega arith;
@@ -13,7 +13,7 @@ throughout_still now since may_leave P only is = record {
   keeps = λ t c le was. was;
 }
 
-pub throughout_weaker : (before now : ℕ) (past since : ℕ → Outcomes) (P Q : Image → Type 0)
+pub throughout_weaker : (before now : ℕ) (past since : ℕ → CrashImages) (P Q : Image → Type 0)
     → Throughout before now past since P → ((c : Image) → P c → Q c) → Throughout before now past since Q
 throughout_weaker before now past since P Q all is = record {
   later = all.later;
@@ -22,7 +22,7 @@ throughout_weaker before now past since P Q all is = record {
   keeps = all.keeps;
 }
 
-pub throughout_both : (before now : ℕ) (past since : ℕ → Outcomes) (P Q : Image → Type 0)
+pub throughout_both : (before now : ℕ) (past since : ℕ → CrashImages) (P Q : Image → Type 0)
     → Throughout before now past since P → Throughout before now past since Q → Throughout before now past since
     (λ c. P c × Q c)
 throughout_both before now past since P Q first second = record {
@@ -34,7 +34,7 @@ throughout_both before now past since P Q first second = record {
   keeps = first.keeps;
 }
 
-pub throughout_then : (before middle now : ℕ) (past between since : ℕ → Outcomes) (P : Image → Type 0)
+pub throughout_then : (before middle now : ℕ) (past between since : ℕ → CrashImages) (P : Image → Type 0)
     → Throughout before middle past between P → Throughout middle now between since P → Throughout before now past
     since P
 throughout_then before middle now past between since P first second = record {

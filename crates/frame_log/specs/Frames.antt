@@ -4,11 +4,11 @@ use Rattle.std.specs.List.{flat_map}
 use Rattle.std.specs.Int.{w64, to_be_bytes}
 use Rattle.frame_log.specs.declared.frame.TheConstants.{OPEN}
 
--- what stands behind the open gate of a frame: the length of the body, and the body
+-- a frame without its open gate: the length of the body, and the body
 abbrev pub sized : List ℕ → List ℕ
 sized body = to_be_bytes w64 (length body) ++ body
 
--- an open gate, and its frame up to the next gate
+-- a frame with its open gate, up to the next gate
 abbrev pub open_frame : List ℕ → List ℕ
 open_frame body = OPEN ∷ sized body
 
@@ -16,7 +16,7 @@ open_frame body = OPEN ∷ sized body
 abbrev pub framed : List (List ℕ) → List ℕ
 framed bodies = flat_map open_frame bodies
 
--- the log has these frames: behind them stands a closed gate, and what is behind that isn't read
+-- the log has these frames: a closed gate follows them, and what is behind that isn't read
 pub record HasFrames (bodies : List (List ℕ)) (bytes : List ℕ) : Type 0 where
   pub gate : ℕ
   pub behind : List ℕ
@@ -24,7 +24,7 @@ pub record HasFrames (bodies : List (List ℕ)) (bytes : List ℕ) : Type 0 wher
   pub closed : gate ≢ OPEN
   pub short : length bytes ≤ 2 ^ 62
 
--- the gate behind these frames may be open or closed; open, the log has more frames
+-- the gate behind these frames may be open or closed; if it is open, the log has more frames
 pub record HasGate (kept more : List (List ℕ)) (bytes : List ℕ) : Type 0 where
   pub gate : ℕ
   pub behind : List ℕ
@@ -35,14 +35,14 @@ pub record HasGate (kept more : List (List ℕ)) (bytes : List ℕ) : Type 0 whe
 abbrev pub MayHave : List (List ℕ) → List (List ℕ) → List ℕ → Type 0
 MayHave kept more bytes = HasFrames kept bytes ⊎ HasFrames (kept ++ more) bytes
 
--- what stands behind an open gate begins with a whole frame and its next gate
+-- the bytes behind an open gate begin with a whole frame and its next gate
 pub record BeginsWhole (bytes : List ℕ) : Type 0 where
   pub body : List ℕ
   pub gate : ℕ
   pub behind : List ℕ
   pub whole : bytes ≡ sized body ++ gate ∷ behind
 
--- behind whole frames stands an open gate at this place whose frame isn't whole
+-- whole frames end at this place, where an open gate has a frame that isn't whole
 pub record IsBroken (at : ℕ) (bytes : List ℕ) : Type 0 where
   pub bodies : List (List ℕ)
   pub behind : List ℕ
@@ -51,16 +51,16 @@ pub record IsBroken (at : ℕ) (bytes : List ℕ) : Type 0 where
   pub broken : BeginsWhole behind → ⊥
   pub early : at < 2 ^ 62
 
--- no gate up to there is broken, but there are more than 2^62 bytes
+-- no frame is broken before 2^62, but there are more than 2^62 bytes
 pub record IsTooLong (at : ℕ) (bytes : List ℕ) : Type 0 where
   pub place : at ≡ 2 ^ 62
   pub long : 2 ^ 62 < length bytes
   pub unbroken : (earlier : ℕ) → IsBroken earlier bytes → ⊥
 
--- the bytes aren't a log, which shows at this place
+-- the bytes are damaged at this place: there are none, too many, or a broken frame
 abbrev pub IsDamaged : ℕ → List ℕ → Type 0
 IsDamaged place bytes = ((bytes ≡ []) × (place ≡ 0)) ⊎ (IsTooLong place bytes ⊎ IsBroken place bytes)
 
--- what the bytes are: the bodies between open gates, or a damage with its place
+-- what the bytes hold: the bodies of their frames, or a damage at its place
 abbrev pub Frames : List ℕ → Result (List (List ℕ)) ℕ → Type 0
 Frames bytes found = MatchResult found (λ bodies. HasFrames bodies bytes) (λ place. IsDamaged place bytes)

@@ -1,8 +1,9 @@
 -- Laws of logs.
-use Rattle.std.specs.Prelude.{◌≡◌, ◌≢◌, ℕ, List, Option}
-use Rattle.disk_model.specs.Logs.{Image, Outcomes}
+use Rattle.std.specs.Prelude.{◌≡◌, ◌≢◌, ℕ, List}
+use Rattle.disk_model.specs.declared.disk.Disk
 use Rattle.frame_log.specs.Frames.{HasFrames, MayHave, IsDamaged}
-use Rattle.frame_log.specs.Standing.{file_of, IsWithin, Leaves, Stands, Holds, SparesOthers, Since}
+use Rattle.frame_log.specs.LogStates.{file_of, IsWithin, Leaves, Represents, Holds}
+use Rattle.disk_model.specs.Stretches.{SparesOthers, Since}
 use Rattle.frame_log.specs.declared.log.Log.{Log}
 
 -- a log has no two lists of frames
@@ -19,35 +20,34 @@ DamagedHasNone = (place : ℕ) (bodies : List (List ℕ)) (bytes : List ℕ)
 abbrev pub DamageIsOne : Type 0
 DamageIsOne = (place other : ℕ) (bytes : List ℕ) → IsDamaged place bytes → IsDamaged other bytes → place ≡ other
 
-module _ {D : Type 0} (seen : D → Option Image) (may_leave : D → Outcomes) (moment : D → ℕ)
-    (left_since : D → ℕ → Outcomes) where
-  -- of each log, where nothing but another one changed
+module _ {D : Type 0} (of_disk : Disk.Ghosts D) where
+  -- a fact on each log, where nothing but another log changed
   abbrev pub OfOther : (Log → D → D → Type 0) → Type 0
   OfOther Fact = (file : ℕ) (log : Log) (old new : D) → file_of log ≢ file
-      → SparesOthers seen may_leave moment left_since file old new → Fact log old new
+      → SparesOthers of_disk file old new → Fact log old new
 
-  -- it stays within its file
+  -- its last gate stays within its file
   abbrev pub OthersStayWithin : Type 0
-  OthersStayWithin = OfOther (λ log old new. IsWithin log (seen old) → IsWithin log (seen new))
+  OthersStayWithin = OfOther (λ log old new. IsWithin log (of_disk.seen old) → IsWithin log (of_disk.seen new))
 
-  -- it stands with the frames that it had
-  abbrev pub OthersStand : Type 0
-  OthersStand = (kept more : List (List ℕ)) → OfOther (λ log old new.
-      Stands seen may_leave log old kept more → Stands seen may_leave log new kept more)
+  -- it represents the frames that it represented
+  abbrev pub OthersRepresent : Type 0
+  OthersRepresent = (kept more : List (List ℕ)) → OfOther (λ log old new.
+      Represents of_disk log old kept more → Represents of_disk log new kept more)
 
-  -- it has for sure the frames that it had
+  -- it has the frames that it had
   abbrev pub OthersHold : Type 0
   OthersHold = (kept : List (List ℕ)) → OfOther (λ log old new.
-      Holds seen may_leave log old kept → Holds seen may_leave log new kept)
+      Holds of_disk log old kept → Holds of_disk log new kept)
 
-  -- at each moment since the start a crash leaves of it what it left before
+  -- at each moment a crash leaves of it what it might have left before
   abbrev pub OthersAreLeft : Type 0
-  OthersAreLeft = (kept more : List (List ℕ)) → OfOther (λ log old new. Stands seen may_leave log old kept more
-      → Since moment left_since old new (λ c. Leaves log.state kept more (c (file_of log))))
+  OthersAreLeft = (kept more : List (List ℕ)) → OfOther (λ log old new. Represents of_disk log old kept more
+      → Since of_disk old new (λ c. Leaves log.state kept more (c (file_of log))))
 
-  -- and at each moment of both logs what each of the two facts says
+  -- at each moment a crash leaves of both logs what it leaves of each
   abbrev pub BothAreLeft : Type 0
   BothAreLeft = (kept more held rest : List (List ℕ)) (file : ℕ) (log : Log) (old new : D) → file_of log ≢ file
-      → SparesOthers seen may_leave moment left_since file old new → Stands seen may_leave log old held rest
-      → Since moment left_since old new (λ c. MayHave kept more (c file))
-      → Since moment left_since old new (λ c. MayHave kept more (c file) × Leaves log.state held rest (c (file_of log)))
+      → SparesOthers of_disk file old new → Represents of_disk log old held rest
+      → Since of_disk old new (λ c. MayHave kept more (c file))
+      → Since of_disk old new (λ c. MayHave kept more (c file) × Leaves log.state held rest (c (file_of log)))

@@ -1,5 +1,5 @@
 pub mod Frames
-pub mod Standing
+pub mod LogStates
 pub mod Calls
 pub mod Scanned
 pub mod Laws

@@ -2,9 +2,10 @@
 use Rattle.std.specs.Prelude.{◌≡◌, ◌≢◌, ℕ, ◌<◌, List, ◌∷◌, ◌++◌, length, take, drop, map, Bool, true, false, Option, Some, None, IsSome, Result, Ok, Err, MatchResult, Vec, ⊤}
 use Rattle.std.specs.Int.{w64, to_be_bytes}
 use Rattle.std.specs.declared.alloc.Global.{Global}
-use Rattle.disk_model.specs.Logs.{Image, Outcomes, Settled}
+use Rattle.disk_model.specs.Logs.{Settled}
+use Rattle.disk_model.specs.declared.disk.Disk
 use Rattle.frame_log.specs.Frames.{open_frame, framed, BeginsWhole, Frames}
-use Rattle.frame_log.specs.Standing.{file_of, end_of, IsUp, IsWithin, Holds}
+use Rattle.frame_log.specs.LogStates.{file_of, end_of, IsUp, IsWithin, Holds}
 use Rattle.frame_log.specs.declared.log.Log.{Log}
 use Rattle.frame_log.specs.declared.frame.TheConstants.{OPEN}
 use Rattle.frame_log.specs.declared.refusal.ScanRefusal.{ScanRefusal}
@@ -14,7 +15,7 @@ use Rattle.frame_log.specs.declared.refusal.ScanRefusal.TheVariants.{Fault, Dama
 abbrev pub bodies_of : Vec (Vec ℕ Global) Global → List (List ℕ)
 bodies_of bodies = map (λ body. body.items) bodies.items
 
--- the first so many bytes of out were read from this place on
+-- the first n bytes of out were read from this place on
 abbrev pub IsRead : List ℕ → ℕ → ℕ → List ℕ → Type 0
 IsRead bytes place n out = take n out ≡ take n (drop place bytes)
 
@@ -30,7 +31,7 @@ abbrev pub IsGate : List ℕ → Bool → Type 0
 IsGate rest true = rest ≡ OPEN ∷ drop 1 rest
 IsGate rest false = EndsAt rest
 
--- an open gate, and a body of so many bytes is to follow
+-- an open gate, and the length of a body of so many bytes
 pub record HasSize (rest : List ℕ) (size : ℕ) : Type 0 where
   pub opens : rest ≡ OPEN ∷ drop 1 rest
   pub spelled : take 8 (drop 1 rest) ≡ to_be_bytes w64 size
@@ -41,7 +42,7 @@ pub record BeginsWith (body rest : List ℕ) : Type 0 where
   pub whole : rest ≡ open_frame body ++ behind
   pub gated : 0 < length behind
 
--- what stands at the next gate: a frame or the end
+-- what is at the next gate: a frame or the end
 abbrev pub IsNext : List ℕ → Option (Vec ℕ Global) → Type 0
 IsNext rest None = EndsAt rest
 IsNext rest (Some body) = BeginsWith body.items rest
@@ -64,15 +65,16 @@ NotScanned bytes Fault = ⊤
 NotScanned bytes (Damaged place) = Frames bytes (Err place)
 NotScanned bytes Memory = ⊤
 
--- a scan of these bytes answers what they are, unless the disk fails or memory runs out
+-- a scan returns the frames of these bytes or their damage, unless the disk fails or memory runs out
 abbrev pub Scans : List ℕ → Result (Log × Vec (Vec ℕ Global) Global) ScanRefusal → Type 0
 Scans bytes result = MatchResult result (λ found. Frames bytes (Ok (bodies_of found.1))) (NotScanned bytes)
 
--- a log that was scanned: it ends behind these frames, and has them for sure where each image has what was read
-pub record Opens {D : Type 0} (seen : D → Option Image) (may_leave : D → Outcomes) (file : ℕ) (old new : D)
+-- a log that was scanned ends behind these frames; where a crash leaves what was read, it leaves these frames
+pub record Opens {D : Type 0} (of_disk : Disk.Ghosts D) (file : ℕ) (old new : D)
     (log : Log) (bodies : List (List ℕ)) : Type 0 where
   pub of_file : file_of log ≡ file
   pub up : IsUp log
   pub place : end_of log ≡ length (framed bodies)
-  pub within : IsWithin log (seen new)
-  pub holds : IsSome (seen old) → Settled file (seen old) (may_leave old) → Holds seen may_leave log new bodies
+  pub within : IsWithin log (of_disk.seen new)
+  pub holds : IsSome (of_disk.seen old) → Settled file (of_disk.seen old) (of_disk.may_leave old)
+      → Holds of_disk log new bodies

@@ -1,17 +1,18 @@
-// A body, framed.
+//! A body, framed.
+
 ghost use Rattle.std.specs.Prelude.{◌≡◌, ◌+◌, [], ◌∷◌, ◌++◌, length, IfOk};
 
 use std::alloc::{AllocError, Global};
 use std::marker::Model;
 
-/// The byte of an open gate. Behind it stands a frame: the length of its body as eight bytes, the highest first, and
-/// the body. Every other byte is a closed gate, which ends the log.
+/// The byte of an open gate. A frame follows it: the length of its body as eight bytes, the highest first, and the
+/// body. Every other byte is a closed gate, which ends the log.
 pub const OPEN: u8 = 0x4F;
 
 /// The byte that is written as a closed gate.
 pub const CLOSED: u8 = 0;
 
-/// A body with its length before it and a closed gate behind it, as a log appends it.
+/// A body, as a log appends it: its length before it and a closed gate behind it.
 #[derive(Debug, Drop)]
 pub struct Frame {
     bytes: Vec<u8>,
@@ -26,7 +27,8 @@ impl Model for Frame {
 
     ghost view = { λ f. take (length f.bytes.items - 9) (drop 8 f.bytes.items) };
 
-    ghost invariant = { λ f. f.bytes.items ≡ sized (take (length f.bytes.items - 9) (drop 8 f.bytes.items)) ++ CLOSED ∷ [] };
+    ghost invariant = { λ f.
+        f.bytes.items ≡ sized (take (length f.bytes.items - 9) (drop 8 f.bytes.items)) ++ CLOSED ∷ [] };
 }
 
 impl Frame {
@@ -43,7 +45,7 @@ impl Frame {
         Ok(Frame { bytes })
     }
 
-    // What a log writes behind its gate.
+    // The bytes that a log writes behind its gate.
     pub(crate) fn bytes(&self) -> &[u8]
         ensures bytes { result.now ≡ sized self.now ++ CLOSED ∷ [] }
         ensures len { length result.now ≡ 9 + length self.now }

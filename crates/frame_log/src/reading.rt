@@ -1,8 +1,9 @@
-// Reading from a log until a buffer is full.
+//! Reading from a log until a buffer is full.
+
 ghost use Rattle.std.specs.Prelude.{◌≡◌, ◌<◌, ◌≤◌, ◌+◌, ◌^◌, ℕ, length, take, drop, IfSome, IfOk, IfErr, OnOk};
 ghost use Rattle.disk_model.specs.declared.disk.TheConstants.{LOG_COUNT};
 ghost use Rattle.disk_model.specs.Causes.{HasCause};
-ghost use Rattle.frame_log.specs.Standing.{OnlyRead};
+ghost use Rattle.disk_model.specs.Stretches.{OnlyRead};
 ghost use Rattle.frame_log.specs.Calls.{Blames};
 ghost use Rattle.frame_log.specs.Scanned.{IsRead};
 ghost use Rattle.frame_log.specs.declared.refusal.ScanRefusal.TheVariants.{Fault};
@@ -10,7 +11,8 @@ ghost use Rattle.frame_log.specs.declared.refusal.ScanRefusal.TheVariants.{Fault
 use crate::refusal::ScanRefusal;
 use disk_model::{Disk, Failed};
 
-// Fills `out` with the bytes from this place on. A read that gives none, as only an untold disk does, damages the gate.
+// Fills `out` with the bytes from this place on. A read that returns 0 before the buffer is full is a damage at the
+// gate; only a disk that doesn't tell its bytes can do so.
 pub(crate) fn fill<D: Disk>(
     disk: &mut D,
     file: u8,
@@ -24,7 +26,7 @@ pub(crate) fn fill<D: Disk>(
     ensures bytes { OnOk result (IfSome (D.seen disk.old) (λ image.
         out.new ≡ take (length out.old) (drop place (image file)))) }
     ensures refused { IfErr result (λ refusal. IfSome (D.seen disk.old) (λ _. refusal ≡ Fault)) }
-    ensures read { OnlyRead D.seen D.may_leave D.moment D.left_since disk.old disk.new }
+    ensures read { OnlyRead D.Disk disk.old disk.new }
     ensures len { length out.new ≡ length out.old }
     ensures cause { Blames Fault (D.faults disk.old) (D.faults disk.new) result }
 {
@@ -39,7 +41,7 @@ pub(crate) fn fill<D: Disk>(
     Ok(())
 }
 
-// Reads on behind the bytes that are there. Gives how many are there then.
+// Reads on behind the bytes that were read. Returns how many were read in all.
 fn read_more<D: Disk>(
     disk: &mut D,
     file: u8,
@@ -55,7 +57,7 @@ fn read_more<D: Disk>(
     ensures on { IfOk result (λ n. IfSome (D.seen disk.old) (λ _. done < n)) }
     ensures bytes { IfOk result (λ n. IfSome (D.seen disk.old) (λ image.
         IsRead (image file) place done out.old → IsRead (image file) place n out.new)) }
-    ensures read { OnlyRead D.seen D.may_leave D.moment D.left_since disk.old disk.new }
+    ensures read { OnlyRead D.Disk disk.old disk.new }
     ensures len { length out.new ≡ length out.old }
     ensures cause { HasCause (D.faults disk.old) (D.faults disk.new) result }
 {

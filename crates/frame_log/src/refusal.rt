@@ -1,4 +1,5 @@
-// Why a call on a log was refused.
+//! Why a call on a log was refused.
+
 ghost use Rattle.std.specs.Prelude.{◌≡◌};
 ghost use Rattle.frame_log.specs.declared.refusal.LogRefusal.TheVariants.{Fault};
 
@@ -29,7 +30,7 @@ impl From<Failed> for LogRefusal {
 pub enum ScanRefusal {
     /// The disk failed.
     Fault,
-    /// The bytes of the log aren't frames, which shows at this place.
+    /// From this place on the bytes of the log aren't frames.
     Damaged { place: u64 },
     /// There was no memory for the bodies.
     Memory,

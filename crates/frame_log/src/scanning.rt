@@ -1,8 +1,9 @@
-// Reading a log's frames.
+//! Reading a log's frames.
+
 ghost use Rattle.std.specs.Prelude.{◌≡◌, ◌<◌, ◌≤◌, ◌+◌, ◌^◌, true, length, drop, IfSome, IfOk, IfErr};
 ghost use Rattle.std.specs.Int.{w64, to_be_bytes, from_be_bytes};
 ghost use Rattle.disk_model.specs.declared.disk.TheConstants.{LOG_COUNT};
-ghost use Rattle.frame_log.specs.Standing.{OnlyRead};
+ghost use Rattle.disk_model.specs.Stretches.{OnlyRead};
 ghost use Rattle.frame_log.specs.Calls.{Blames};
 ghost use Rattle.frame_log.specs.Scanned.{IsGate, IsNext, NotNext, HasSize, Scans, Opens, bodies_of};
 ghost use Rattle.frame_log.specs.declared.refusal.ScanRefusal.TheVariants.{Fault};
@@ -14,9 +15,10 @@ use crate::refusal::ScanRefusal;
 use disk_model::Disk;
 use std::alloc::Global;
 
-/// Reads the frames of a log, and gives the log to append behind them. What is behind its closed gate isn't read.
+/// Reads the frames of a log. Returns the log, ready to append behind them, and the bodies. What is behind its closed
+/// gate isn't read.
 ///
-/// It costs three reads a frame, and memory for the bodies.
+/// It costs three reads a frame, more where the disk reads short, and memory for the bodies.
 pub fn scan<D: Disk>(
     alloc: Global,
     disk: &mut D,
@@ -24,8 +26,8 @@ pub fn scan<D: Disk>(
 ) -> Result<(Log, Vec<Vec<u8>>), ScanRefusal>
     requires { file < LOG_COUNT }
     ensures answer { IfSome (D.seen disk.old) (λ image. Scans (image file) result) }
-    ensures log { IfOk result (λ found. Opens D.seen D.may_leave file disk.old disk.new found.0 (bodies_of found.1)) }
-    ensures read { OnlyRead D.seen D.may_leave D.moment D.left_since disk.old disk.new }
+    ensures log { IfOk result (λ found. Opens D.Disk file disk.old disk.new found.0 (bodies_of found.1)) }
+    ensures read { OnlyRead D.Disk disk.old disk.new }
     ensures cause { Blames Fault (D.faults disk.old) (D.faults disk.new) result }
 {
     let len = disk.len(file)?;
@@ -41,7 +43,7 @@ pub fn scan<D: Disk>(
     Ok((Log::ending(file, end), bodies))
 }
 
-// What stands at the gate at this place of a log of so many bytes: the body of a frame, or none at a closed gate.
+// The body of the frame behind the gate at this place of a log of `len` bytes, or none where the gate is closed.
 fn next<D: Disk>(
     alloc: Global,
     disk: &mut D,
@@ -58,7 +60,7 @@ fn next<D: Disk>(
     ensures inside { IfOk result (λ found. IfSome found (λ body. gate + 9 + length body.items < len)) }
     ensures refused { IfErr result (λ refusal. IfSome (D.seen disk.old) (λ image.
         NotNext gate (drop gate (image file)) refusal)) }
-    ensures read { OnlyRead D.seen D.may_leave D.moment D.left_since disk.old disk.new }
+    ensures read { OnlyRead D.Disk disk.old disk.new }
     ensures cause { Blames Fault (D.faults disk.old) (D.faults disk.new) result }
 {
     if !is_open(disk, file, len, gate)? {
@@ -80,7 +82,7 @@ fn is_open<D: Disk>(disk: &mut D, file: u8, len: u64, gate: u64) -> Result<bool,
         IsGate (drop gate (image file)) is_open)) }
     ensures refused { IfErr result (λ refusal. IfSome (D.seen disk.old) (λ image.
         NotNext gate (drop gate (image file)) refusal)) }
-    ensures read { OnlyRead D.seen D.may_leave D.moment D.left_since disk.old disk.new }
+    ensures read { OnlyRead D.Disk disk.old disk.new }
     ensures cause { Blames Fault (D.faults disk.old) (D.faults disk.new) result }
 {
     let mut byte = [0];
@@ -88,7 +90,7 @@ fn is_open<D: Disk>(disk: &mut D, file: u8, len: u64, gate: u64) -> Result<bool,
     Ok(byte[0] == OPEN)
 }
 
-// How long the body of the frame is whose open gate stands at this place.
+// The length of the body of the frame whose open gate is at this place.
 fn size_at<D: Disk>(disk: &mut D, file: u8, len: u64, gate: u64) -> Result<u64, ScanRefusal>
     requires file { file < LOG_COUNT }
     requires len { len ≤ 2 ^ 62 }
@@ -100,7 +102,7 @@ fn size_at<D: Disk>(disk: &mut D, file: u8, len: u64, gate: u64) -> Result<u64, 
     ensures inside { IfOk result (λ size. gate + 9 + size < len) }
     ensures refused { IfErr result (λ refusal. IfSome (D.seen disk.old) (λ image.
         NotNext gate (drop gate (image file)) refusal)) }
-    ensures read { OnlyRead D.seen D.may_leave D.moment D.left_since disk.old disk.new }
+    ensures read { OnlyRead D.Disk disk.old disk.new }
     ensures cause { Blames Fault (D.faults disk.old) (D.faults disk.new) result }
 {
     if len - gate < 10 {
@@ -115,7 +117,7 @@ fn size_at<D: Disk>(disk: &mut D, file: u8, len: u64, gate: u64) -> Result<u64, 
     Ok(size)
 }
 
-// The number in eight bytes, the highest first.
+// The number that eight bytes spell, the highest first.
 fn number_of(bytes: [u8; 8]) -> u64
     ensures number { result ≡ from_be_bytes w64 bytes }
     ensures spelled { to_be_bytes w64 result ≡ bytes }

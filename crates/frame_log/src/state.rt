@@ -1,12 +1,12 @@
-// Whether a log is down, and what a fault may have done to its gate.
+//! Whether a log is down, and what a fault may have done to its gate.
 
 /// What is known of a log's last gate.
 #[derive(Clone, Copy, Debug, PartialEq, Eq)]
 pub enum State {
-    /// It stands closed on the disk.
-    Good,
-    /// A fault was met. It stands closed on the disk.
-    Down,
-    /// A fault was met. A crash may leave it open.
-    Touched,
+    /// It is closed on the disk.
+    Healthy,
+    /// A call failed. The gate is closed on the disk.
+    Failed,
+    /// A call failed. A crash may leave the gate open.
+    GateUnknown,
 }

@@ -1,4 +1,5 @@
-// A file that is being made.
+//! A file that is being made.
+
 ghost use Rattle.std.specs.Prelude.{◌≡◌, None, IfOk};
 
 use crate::count::Count;
@@ -24,7 +25,7 @@ pub struct SystemBuild {
 }
 
 impl SystemBuild {
-    // The bytes reach the disk before the name does, and the name before this returns.
+    // Syncs the bytes, then renames the file, then syncs the directory.
     fn finish(&self, file: File) -> io::Result<SystemFile>
         ensures { IfOk result (λ sealed. sealed.number ≡ self.now.number) }
     {

@@ -19,18 +19,18 @@ impl Count {
         Count { rt, faults: 0 }
     }
 
-    /// Counts an error, and tells it on standard error with the name of what failed.
+    /// Counts an error, and prints it on standard error with the name of what failed.
     pub fn fail(&mut self, name: &str, error: io::Error) -> Failed
         ensures rose { Rose self.old.faults self.new.faults }
         ensures later { self.old.faults ≤ self.new.faults }
     {
-        // Where this can't be written either, there is nobody to tell.
+        // Where standard error fails too, the error is only counted.
         let _ = eprintln!(self.rt; "docdb: {name}: {error}");
         self.faults = self.faults.saturating_add(1);
         Failed
     }
 
-    /// What the system answered, where an error is counted.
+    /// The value that the system returned, or an error, which is counted.
     pub fn counted<T: Drop>(&mut self, name: &str, answer: io::Result<T>) -> Result<T, Failed>
         ensures value { IfOk result (λ value. answer ≡ Ok value) }
         ensures cause { HasCause self.old.faults self.new.faults result }

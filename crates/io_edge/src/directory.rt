@@ -1,4 +1,4 @@
-// A directory of the file system that this process holds for itself.
+//! A directory of the file system that this process holds for itself.
 
 use crate::opening::open_above_standard;
 use std::alloc::Global;
@@ -11,11 +11,11 @@ use std::{fs, io};
 pub enum Missing {
     /// The directory and its logs are made.
     Make,
-    /// Nothing is made: a blank store is handed out, which takes no writes.
+    /// Nothing is made: a blank store is handed out, which refuses writes.
     Leave,
 }
 
-/// A directory, open and locked. The lock goes with the value, and with the process however that ends.
+/// A directory, open and locked. The lock ends with the value, and with the process however that ends.
 #[derive(Drop)]
 pub struct Directory {
     path: String,
@@ -23,7 +23,8 @@ pub struct Directory {
 }
 
 impl Directory {
-    /// Opens a directory and locks it, which fails where it is locked already. None where it is left as missing.
+    /// Opens a directory and locks it, which fails where it is locked already. Returns none where the directory is left
+    /// as missing.
     pub fn hold(
         rt: &HostRuntime,
         alloc: Global,
@@ -83,13 +84,13 @@ impl Directory {
         Ok(format!(in alloc; "{}/file-{number}.new", self.path.as_str())?)
     }
 
-    /// From here on the names that were made, changed or removed in it last over a crash.
+    /// Syncs the directory: the names that were made, changed or removed in it survive a crash.
     pub fn sync(&self) -> io::Result<()> {
         self.handle.sync_all()
     }
 }
 
-// Makes a directory where it is missing. Its entry in the directory above lasts over a crash.
+// Makes a directory where it is missing. Its entry in the directory above survives a crash.
 fn make(rt: &HostRuntime, alloc: Global, path: &str) -> io::Result<()> {
     match fs::create_dir(rt, path) {
         Err(error) if error.kind() != ErrorKind::AlreadyExists => Err(error),
@@ -100,7 +101,7 @@ fn make(rt: &HostRuntime, alloc: Global, path: &str) -> io::Result<()> {
     }
 }
 
-// To open a pipe that lies in a directory's place could wait for ever.
+// Opens a directory. Anything else is refused first, since opening a pipe could wait for ever.
 fn open_directory(rt: &HostRuntime, path: &str) -> io::Result<File> {
     if !fs::metadata(rt, path)?.is_dir() {
         return Err(ErrorKind::NotADirectory.into());

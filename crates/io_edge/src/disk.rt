@@ -1,4 +1,5 @@
-// The logs of a directory.
+//! The logs of a directory.
+
 ghost use Rattle.std.specs.Prelude.{◌≤◌, length, None};
 ghost use Rattle.disk_model.specs.Causes.{HasCause, Rose};
 ghost use Rattle.io_edge.specs.Untold.{Anything};
@@ -6,13 +7,14 @@ ghost use Rattle.io_edge.specs.Untold.{Anything};
 use crate::count::Count;
 use crate::directory::Directory;
 use crate::log::Log;
+use crate::reading;
 use disk_model::{Disk, Failed};
 use std::alloc::Global;
 use std::io;
 use std::os::unix::fs::FileExt;
 
-/// The four logs of a directory as files, or four logs of one zero byte that take no writes. It tells nothing of what
-/// they hold: a crash may leave anything.
+/// The four logs of a directory as files, or four logs of one zero byte that refuse writes. Its ghosts tell nothing of
+/// what the logs hold: by them a crash may leave anything.
 #[derive(Drop)]
 pub struct SystemDisk {
     logs: Option<[Log; 4]>,
@@ -20,7 +22,8 @@ pub struct SystemDisk {
 }
 
 impl SystemDisk {
-    /// Opens the logs of a directory, and makes those that are missing.
+    /// Opens the logs of a directory, and makes those that are missing. It reads and writes each byte of each log once,
+    /// as `Log::open` says.
     pub(crate) fn open(
         rt: &HostRuntime,
         alloc: Global,
@@ -42,7 +45,7 @@ impl SystemDisk {
         })
     }
 
-    /// Logs without a file.
+    /// Four logs of one zero byte, without files.
     pub(crate) fn blank(rt: &HostRuntime) -> Self {
         SystemDisk {
             logs: None,
@@ -50,7 +53,7 @@ impl SystemDisk {
         }
     }
 
-    // Refuses to change a log without a file.
+    // Counts a change of a log without a file as a fault.
     fn refuse(&mut self) -> Failed
         ensures rose { Rose self.old.count.faults self.new.count.faults }
         ensures later { self.old.count.faults ≤ self.new.count.faults }
@@ -60,7 +63,7 @@ impl SystemDisk {
     }
 }
 
-// Reads of a log of one zero byte.
+// Reads from a log of one zero byte.
 fn read_blank(place: u64, out: &mut [u8]) -> usize
     ensures { result ≤ length out.new }
 {
@@ -98,7 +101,7 @@ impl Disk for SystemDisk {
             return Ok(read_blank(place, out));
         };
         let log = &logs[file as usize];
-        let answer = log.file.read_at(out, place);
+        let answer = reading::read_at(&log.file, out, place);
         self.count.counted(log.path.as_str(), answer)
     }
 

@@ -1,4 +1,5 @@
-// A sealed file.
+//! A sealed file.
+
 ghost use Rattle.std.specs.Prelude.{None};
 
 use disk_model::SealedFile;

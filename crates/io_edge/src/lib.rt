@@ -1,5 +1,6 @@
-//! The outside over the real thing: the files of a directory, client files and the standard streams. It tells no
-//! content. Each failure is told on standard error, with the name of the file or stream and the system's message.
+//! The files of a directory, client files and the standard streams, behind the traits of `disk_model`. Their ghosts
+//! don't tell content. Each failure is printed on standard error with the name of the file or stream and the system's
+//! message. A call of the system that a signal interrupts is made again.
 #![tactic(auto)]
 
 mod build;
@@ -10,6 +11,7 @@ mod file;
 mod log;
 mod opening;
 mod port;
+mod reading;
 mod seats;
 mod streams;
 #[cfg(test)]

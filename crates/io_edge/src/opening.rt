@@ -1,11 +1,11 @@
-// Opening files.
+//! Opening files.
 
 use std::fs::{File, OpenOptions};
 use std::io;
 use std::os::fd::AsRawFd;
 
-/// Opens a file under a descriptor above 2. Where the program began with a standard stream closed, the system gives that
-/// stream's number to the next file, and what is printed would be written into it.
+/// Opens a file under a descriptor above 2. Where the program began with a standard stream closed, the system gives the
+/// stream's number to the next file, and the program would print into that file.
 pub fn open_above_standard(
     rt: &HostRuntime,
     path: &str,

@@ -1,4 +1,4 @@
-// Reading sealed files.
+//! Reading sealed files.
 
 use crate::count::Count;
 use crate::file::SystemFile;

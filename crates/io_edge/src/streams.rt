@@ -1,26 +1,29 @@
-// Where the lines of a client come from, and where its replies go.
+//! The input and the output of a client.
+
 ghost use Rattle.std.specs.Prelude.{None};
 
 use crate::count::Count;
+use crate::reading::read_next;
 use disk_model::{Failed, Sink, Source};
 use std::fs::File;
-use std::io::{Read, Stdin, Stdout, Write};
+use std::io::{Stdin, Stdout, Write};
 
-/// What is read.
+/// A stream that is read.
 #[derive(Drop)]
 pub enum Input {
     Standard(Stdin),
     File(File),
 }
 
-/// What is written to.
+/// A stream that is written.
 #[derive(Drop)]
 pub enum Output {
     Standard(Stdout),
     File(File),
 }
 
-/// Standard input or a file. It doesn't tell what is left. Each read is one call of the system.
+/// Standard input or a file. Its ghost doesn't tell what is left. A read is one call of the system, and a call more for
+/// each signal that interrupts it.
 #[derive(Drop)]
 pub struct SystemSource {
     name: String,
@@ -29,7 +32,7 @@ pub struct SystemSource {
 }
 
 impl SystemSource {
-    /// What is read, under the name that failures are told by.
+    /// A source that reads this input. Failures are printed with the name.
     pub fn new(rt: HostRuntime, name: String, input: Input) -> Self {
         SystemSource {
             name,
@@ -46,8 +49,8 @@ impl Source for SystemSource {
 
     fn read(&mut self, out: &mut [u8]) -> Result<usize, Failed> {
         let answer = match &mut self.input {
-            Input::Standard(stream) => stream.read(out),
-            Input::File(file) => file.read(out),
+            Input::Standard(stream) => read_next(stream, out),
+            Input::File(file) => read_next(file, out),
         };
         self.count.counted(self.name.as_str(), answer)
     }
@@ -57,7 +60,7 @@ impl Source for SystemSource {
     }
 }
 
-/// Standard output or a file. It doesn't tell what was written. It keeps nothing back: each piece goes to the system.
+/// Standard output or a file. Its ghost doesn't tell what was written. It has no buffer: each piece goes to the system.
 #[derive(Drop)]
 pub struct SystemSink {
     name: String,
@@ -66,7 +69,7 @@ pub struct SystemSink {
 }
 
 impl SystemSink {
-    /// What is written to, under the name that failures are told by.
+    /// A sink that writes this output. Failures are printed with the name.
     pub fn new(rt: HostRuntime, name: String, output: Output) -> Self {
         SystemSink {
             name,

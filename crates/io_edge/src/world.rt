@@ -1,4 +1,4 @@
-// The real world.
+//! The real world.
 
 mod calls;
 
@@ -18,7 +18,7 @@ pub type SystemStore = Store<SystemDisk, SystemYard>;
 /// What serves one client.
 pub type SystemClient = Client<SystemSource, SystemSink, SystemPort>;
 
-/// The files of directories, client files and the standard streams. It tells nothing of what they hold.
+/// The files of directories, client files and the standard streams. Its ghosts don't tell what they hold.
 #[derive(Drop)]
 pub struct SystemWorld {
     rt: HostRuntime,

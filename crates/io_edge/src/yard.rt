@@ -1,4 +1,5 @@
-// The sealed files of a directory.
+//! The sealed files of a directory.
+
 ghost use Rattle.std.specs.Prelude.{None};
 
 use crate::build::SystemBuild;
@@ -12,8 +13,8 @@ use std::fs::{File, OpenOptions};
 use std::sync::Arc;
 use std::{fs, io};
 
-/// The sealed files of a directory, by number, or none, and then no build can be begun. It tells nothing of what they
-/// hold.
+/// The sealed files of a directory by number, or a yard without a directory, which has no file and begins no build. Its
+/// ghosts don't tell what files hold.
 #[derive(Drop)]
 pub struct SystemYard {
     rt: HostRuntime,
@@ -52,7 +53,7 @@ fn begin(
     open_above_standard(rt, path, &options)
 }
 
-// Opens a sealed file where it is there, and tells its size.
+// Opens a sealed file where it is there. Returns it with its size.
 fn find(rt: &HostRuntime, path: &str) -> io::Result<Option<(File, u64)>> {
     let mut options = OpenOptions::new();
     match open_above_standard(rt, path, options.read(true)) {
@@ -65,14 +66,14 @@ fn find(rt: &HostRuntime, path: &str) -> io::Result<Option<(File, u64)>> {
     }
 }
 
-// Removes what a number has, sealed or not. A name that was removed doesn't come back after a crash.
+// Removes what a number has, sealed or not. The removed names stay removed over a crash.
 fn clear(rt: &HostRuntime, alloc: Global, directory: &Directory, number: u64) -> io::Result<()> {
     remove_if_there(rt, directory.unsealed(alloc, number)?.as_str())?;
     remove_if_there(rt, directory.sealed(alloc, number)?.as_str())?;
     directory.sync()
 }
 
-// Removes a file. One that isn't there is as good as removed.
+// Removes a file. It is no error if the file isn't there.
 fn remove_if_there(rt: &HostRuntime, path: &str) -> io::Result<()> {
     match fs::remove_file(rt, path) {
         Err(error) if error.kind() == io::ErrorKind::NotFound => Ok(()),

@@ -1,4 +1,4 @@
--- Which entries of two journals are refused.
+-- Which entries of two journals break a rule.
 use Rattle.std.proofs.Common.{◌≡◌, inr, ◌≤◌, ◌+◌, refl, sym, subst, ℕ, zero, suc, Bool, true, false, List, length, Some, slice_get, arith}
 use Rattle.std.specs.Prelude.{Vec, if◌then◌else◌, ◌==◌}
 use Rattle.std.specs.declared.alloc.Global.{Global}
@@ -13,7 +13,7 @@ use Rattle.journal_meaning.specs.Bodies.{HasBodies, Numbered, SpellEntries}
 use Rattle.journal_meaning.specs.Damages.{IsMisplaced, gate_of, other_of, own_of}
 use Rattle.journal_reading.specs.Reading.{Replays, items_of}
 use Rattle.journal_reading.specs.declared.replay.Replay.{Replay}
-use Rattle.journal.specs.EntryReading.{BreaksOrder, IsFirstApart}
+use Rattle.journal.specs.EntryReading.{BreaksOrder, IsFirstGap}
 use Rattle.journal.specs.LogReading.{four}
 use Rattle.journal.specs.declared.reading.EntryLog.{EntryLog}
 
@@ -39,7 +39,7 @@ module _ (one other : List (Vec ℕ Global)) (es fs : List Numbered) (first : Sp
       → k ≤ length (if file == 0 then one else other)
   misplaced_within root misplaced = either_within (file == 0) one other es fs k misplaced.e first second misplaced.here
 
-  pub apart_within : IsFirstApart es fs file k → k ≤ length (if file == 0 then one else other)
+  pub apart_within : IsFirstGap es fs file k → k ≤ length (if file == 0 then one else other)
   apart_within is =
       let apart = is.apart in either_within (file == 0) one other es fs k apart.e first second apart.here
 
@@ -54,7 +54,7 @@ pub step_broken : (root : PlainRoot) (first second : EntryLog) (replay : Replay)
     → SpellEntries (items_of first.bodies.items) first.entries.items
     → SpellEntries (items_of second.bodies.items) second.entries.items
     → Replays root first.entries.items second.entries.items replay
-    → IsFirstApart first.entries.items second.entries.items file k
+    → IsFirstGap first.entries.items second.entries.items file k
     → place ≡ gate_of (if file == 0 then items_of first.bodies.items else items_of second.bodies.items) k + 10
     → BreaksOrder root first second file place
 step_broken root first second replay file k place spelled also replays is placed third fourth =

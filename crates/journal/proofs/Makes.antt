@@ -1,14 +1,15 @@
 -- The logs of an empty database, made.
-use Rattle.std.proofs.Common.{◌≡◌, ◌⊎◌, inl, inr, ⊎_elim, ◌≤◌, ◌+◌, ◌-◌, ◌<◌, ◌^◌, ◌∙◌, length, not, ◌&&◌, refl, sym, subst, ℕ, Bool, true, false, List, [], ◌∷◌, Option, Result, Ok, Err, IsErrAnd, arith}
+use Rattle.std.proofs.Common.{◌≡◌, ◌⊎◌, inl, inr, ⊎_elim, ◌≤◌, ◌+◌, ◌-◌, ◌<◌, ◌^◌, ◌∙◌, length, not, ◌&&◌, refl, sym, subst, ℕ, Bool, true, false, List, [], ◌∷◌, Result, Ok, Err, IsErrAnd, arith}
 use Rattle.std.specs.Prelude.{if◌then◌else◌}
+use Rattle.disk_model.specs.declared.disk.Disk
 use Rattle.disk_model.specs.Causes.{Rose}
-use Rattle.disk_model.specs.Logs.{Image, Outcomes}
-use Rattle.disk_model.specs.Moments.{Throughout}
+use Rattle.disk_model.specs.Logs.{Image}
 use Rattle.doc_model.specs.declared.settings.Settings.{Settings}
 use Rattle.doc_meaning.specs.History.{Base, empty_base, settings_of}
 use Rattle.frame_log.specs.Calls.{Blames}
 use Rattle.frame_log.specs.Frames.{HasFrames, MayHave}
-use Rattle.frame_log.specs.Standing.{IsEmpty, IsUp, OnlyRead, end_of}
+use Rattle.frame_log.specs.LogStates.{IsEmpty, IsUp, end_of}
+use Rattle.disk_model.specs.Stretches.{OnlyRead, Since}
 use Rattle.frame_log.specs.declared.refusal.LogRefusal.{LogRefusal}
 use Rattle.frame_log.specs.declared.refusal.LogRefusal.TheVariants as log
 use Rattle.frame_log.proofs.OneLemmas.{frames_are_one}
@@ -22,10 +23,10 @@ use Rattle.journal_meaning.proofs.BodyLemmas.{root_log_is_whole}
 use Rattle.journal_meaning.proofs.EmptyLemmas.{first_root_is_told}
 use Rattle.journal_meaning.proofs.ShownLemmas.{nothing_is_shown, told_is_shown}
 use Rattle.journal.specs.Calls.{Appends}
-use Rattle.journal.specs.Making.{IsEmptyJournal, IsUsed}
-use Rattle.journal.specs.Opening.{Made, MakesShown, ShowsAs}
-use Rattle.journal.specs.Refusing.{HasNoRoot, IsTaken}
-use Rattle.journal.specs.Standing.{AreUp, StandsWith, has_frames, log_of, other_log, TakesRoot}
+use Rattle.journal.specs.Making.{IsEmptyJournal}
+use Rattle.journal_meaning.specs.Directories.{IsUsed, HasNoRoot, IsTaken, MakesShown, ShowsAs}
+use Rattle.journal.specs.Opening.{Made}
+use Rattle.journal.specs.JournalStates.{AreUp, LogsRepresent, has_frames, log_of, other_log, TakesRoot}
 use Rattle.journal.specs.declared.journal.Journal.{Journal}
 use Rattle.journal.specs.declared.refusal.MakeRefusal.{MakeRefusal}
 use Rattle.journal.specs.declared.refusal.MakeRefusal.TheVariants as make
@@ -102,22 +103,21 @@ no_root_shown c none base shows = nothing_is_shown shows.bodies c base shows.has
     (frames_are_one (shows.bodies 2) [] (c 2) (shows.has 2 (omega arith)) none.0)
     (frames_are_one (shows.bodies 3) [] (c 3) (shows.has 3 (omega arith)) none.1) shows
 
-module _ {D : Type 0} (seen : D → Option Image) (may_leave : D → Outcomes) (moment : D → ℕ)
-    (left_since : D → ℕ → Outcomes) (settings : Settings) where
+module _ {D : Type 0} (of_disk : Disk.Ghosts D) (settings : Settings) where
   -- while the journals are made empty
-  pub blank_shown : (old mid new : D) → OnlyRead seen may_leave moment left_since old mid
-      → Throughout (moment mid) (moment new) (left_since mid) (left_since new) (λ c. may_leave mid c ⊎ HasNoRoot c)
-      → MakesShown may_leave moment left_since (settings_of settings) old new
+  pub blank_shown : (old mid new : D) → OnlyRead of_disk old mid
+      → Since of_disk mid new (λ c. of_disk.may_leave mid c ⊎ HasNoRoot c)
+      → MakesShown of_disk (settings_of settings) old new
   blank_shown old mid new read all =
       throughout_then _ _ _ _ _ _
-      (λ c. ((d : Image) × may_leave old d × ShowsAs d c) ⊎ (((base : Base) → Shows c base → ⊥) ⊎ Shows c (empty_base
+      (λ c. ((d : Image) × of_disk.may_leave old d × ShowsAs d c) ⊎ (((base : Base) → Shows c base → ⊥) ⊎ Shows c (empty_base
       (settings_of settings))))
-      (throughout_weaker _ _ _ _ (may_leave old)
-      (λ c. ((d : Image) × may_leave old d × ShowsAs d c) ⊎ (((base : Base) → Shows c base → ⊥) ⊎ Shows c (empty_base
+      (throughout_weaker _ _ _ _ (of_disk.may_leave old)
+      (λ c. ((d : Image) × of_disk.may_leave old d × ShowsAs d c) ⊎ (((base : Base) → Shows c base → ⊥) ⊎ Shows c (empty_base
       (settings_of settings))))
       read.images (λ c was. inl (c, was, λ base. ((λ is. is), (λ is. is)))))
-      (throughout_weaker _ _ _ _ (λ c. may_leave mid c ⊎ HasNoRoot c)
-      (λ c. ((d : Image) × may_leave old d × ShowsAs d c) ⊎ (((base : Base) → Shows c base → ⊥) ⊎ Shows c (empty_base
+      (throughout_weaker _ _ _ _ (λ c. of_disk.may_leave mid c ⊎ HasNoRoot c)
+      (λ c. ((d : Image) × of_disk.may_leave old d × ShowsAs d c) ⊎ (((base : Base) → Shows c base → ⊥) ⊎ Shows c (empty_base
       (settings_of settings))))
       all (λ c is. ⊎_elim (λ was. inl (c, read.fewer c was, λ base. ((λ is. is), (λ is. is))))
       (λ none. inr (inl (no_root_shown c none))) is))
@@ -141,52 +141,52 @@ module _ {D : Type 0} (seen : D → Option Image) (may_leave : D → Outcomes) (
   first_file journal file empty takes = ⊎_elim (λ (two : (file ≡ 2) × IsEmpty journal.root_0). two.0)
       (λ (three : (file ≡ 3) × (IsEmpty journal.root_0 → ⊥) × IsEmpty journal.root_1). absurd (three.1 empty.root_0)) takes
 
-  pub first_appended : {T : Type 0} (faults : D → ℕ) (body : List ℕ) (journal after : Journal) (mid new : D)
+  pub first_appended : {T : Type 0} (body : List ℕ) (journal after : Journal) (mid new : D)
       (result : Result T LogRefusal) → IsEmptyJournal journal
       → ((file : ℕ) × TakesRoot journal file
-      × Appends seen may_leave moment left_since faults file body journal after mid new result)
-      → Appends seen may_leave moment left_since faults 2 body journal after mid new result
-  first_appended faults body journal after mid new result empty (file, takes, appends) =
-      subst (λ n. Appends seen may_leave moment left_since faults n body journal after mid new result)
+      × Appends of_disk file body journal after mid new result)
+      → Appends of_disk 2 body journal after mid new result
+  first_appended body journal after mid new result empty (file, takes, appends) =
+      subst (λ n. Appends of_disk n body journal after mid new result)
       (first_file journal file empty takes) appends
 
-  pub first_images : {T : Type 0} (faults : D → ℕ) (body : List ℕ) (journal after : Journal) (old mid new : D)
+  pub first_images : {T : Type 0} (body : List ℕ) (journal after : Journal) (old mid new : D)
       (result : Result T LogRefusal) → SpellsRoot body (first_root settings) → IsEmptyJournal journal
-      → StandsWith seen may_leave journal mid no_bodies no_bodies
-      → MakesShown may_leave moment left_since (settings_of settings) old mid
-      → Appends seen may_leave moment left_since faults 2 body journal after mid new result
-      → MakesShown may_leave moment left_since (settings_of settings) old new
-  first_images faults body journal after old mid new result spelled empty stands shown appends =
+      → LogsRepresent of_disk journal mid no_bodies no_bodies
+      → MakesShown of_disk (settings_of settings) old mid
+      → Appends of_disk 2 body journal after mid new result
+      → MakesShown of_disk (settings_of settings) old new
+  first_images body journal after old mid new result spelled empty represents shown appends =
       throughout_then _ _ _ _ _ _
-      (λ c. ((d : Image) × may_leave old d × ShowsAs d c) ⊎ (((base : Base) → Shows c base → ⊥) ⊎ Shows c (empty_base
+      (λ c. ((d : Image) × of_disk.may_leave old d × ShowsAs d c) ⊎ (((base : Base) → Shows c base → ⊥) ⊎ Shows c (empty_base
       (settings_of settings))))
       shown (throughout_weaker _ _ _ _ (MayHaveBodies no_bodies (only_body 2 body))
-      (λ c. ((d : Image) × may_leave old d × ShowsAs d c) ⊎ (((base : Base) → Shows c base → ⊥) ⊎ Shows c (empty_base
+      (λ c. ((d : Image) × of_disk.may_leave old d × ShowsAs d c) ⊎ (((base : Base) → Shows c base → ⊥) ⊎ Shows c (empty_base
       (settings_of settings))))
-      (appends.frames no_bodies stands (empty.up 2 (omega arith))).any_moment
+      (appends.frames no_bodies represents (empty.up 2 (omega arith))).any_moment
       (λ c has. inr (first_shown body spelled c has)))
 
   -- no log is down where the first root was appended
-  pub made_up : {T : Type 0} (faults : D → ℕ) (body : List ℕ) (journal after : Journal) (mid new : D) (v : T)
-      → IsEmptyJournal journal → Appends seen may_leave moment left_since faults 2 body journal after mid new (Ok v)
+  pub made_up : {T : Type 0} (body : List ℕ) (journal after : Journal) (mid new : D) (v : T)
+      → IsEmptyJournal journal → Appends of_disk 2 body journal after mid new (Ok v)
       → AreUp after
-  made_up faults body journal after mid new v empty appends = each_log (λ k. IsUp (log_of after k)) 2
+  made_up body journal after mid new v empty appends = each_log (λ k. IsUp (log_of after k)) 2
       appends.answer.answer.1 (λ k lt apart. rw (appends.others.others k lt apart) (empty.up k lt))
 
-  pub made : {T : Type 0} (faults : D → ℕ) (body : List ℕ) (journal after : Journal) (mid new : D) (v : T)
+  pub made : {T : Type 0} (body : List ℕ) (journal after : Journal) (mid new : D) (v : T)
       → SpellsRoot body (first_root settings) → IsEmptyJournal journal
-      → StandsWith seen may_leave journal mid no_bodies no_bodies
-      → Appends seen may_leave moment left_since faults 2 body journal after mid new (Ok v)
-      → Made seen may_leave settings new after
-  made faults body journal after mid new v spelled empty stands appends =
+      → LogsRepresent of_disk journal mid no_bodies no_bodies
+      → Appends of_disk 2 body journal after mid new (Ok v)
+      → Made of_disk settings new after
+  made body journal after mid new v spelled empty represents appends =
       let current = appends.others.current ∙ empty.current in
       let one : after.journal_1 ≡ journal.journal_1 = appends.others.others 1 (omega arith) (λ e. omega (arith, e)) in
       let three : after.root_1 ≡ journal.root_1 = appends.others.others 3 (omega arith) (λ e. omega (arith, e)) in
       record {
         body = body;
         first = spelled;
-        up = made_up faults body journal after mid new v empty appends;
-        stands = (appends.frames no_bodies stands (empty.up 2 (omega arith))).now;
+        up = made_up body journal after mid new v empty appends;
+        represents = (appends.frames no_bodies represents (empty.up 2 (omega arith))).now;
         current = current;
         owes = none_owed (has_frames after.root_0) (not after.frozen) (has_frames after.root_1) (has_frames (other_log
             after))
@@ -194,27 +194,27 @@ module _ {D : Type 0} (seen : D → Option Image) (may_leave : D → Outcomes) (
             (rw (one, empty.journal_1) refl));
       }
 
-  -- the first root is refused by a fault alone
-  pub first_refused : {T : Type 0} (body : List ℕ) (faults : D → ℕ) (journal after : Journal) (mid new : D)
+  -- the first root is refused only if the disk fails
+  pub first_refused : {T : Type 0} (body : List ℕ) (journal after : Journal) (mid new : D)
       (why : LogRefusal) → SpellsRoot body (first_root settings) → IsEmptyJournal journal
-      → Appends seen may_leave moment left_since {T = T} faults 2 body journal after mid new (Err why) → why ≡ log.Fault
-  first_refused body faults journal after mid new log.Down spelled empty appends =
+      → Appends of_disk {T = T} 2 body journal after mid new (Err why) → why ≡ log.Fault
+  first_refused body journal after mid new log.Down spelled empty appends =
       absurd (appends.answer.answer.0 (empty.up 2 (omega arith)))
-  first_refused body faults journal after mid new (log.Long end) spelled empty appends =
+  first_refused body journal after mid new (log.Long end) spelled empty appends =
       let none : end_of journal.root_0 ≡ 0 = empty.root_0 in
       let past : 2 ^ 62 < end_of journal.root_0 + 10 + length body = appends.answer.answer.2 in
       absurd (omega (arith, none, past, first_root_is_short settings body spelled))
-  first_refused body faults journal after mid new log.Fault spelled empty appends = refl
+  first_refused body journal after mid new log.Fault spelled empty appends = refl
 
   -- a fault is blamed for what it was
-  pub first_cause : {T X : Type 0} (body : List ℕ) (faults : D → ℕ) (journal after : Journal) (old mid new : D)
+  pub first_cause : {T X : Type 0} (body : List ℕ) (journal after : Journal) (old mid new : D)
       (why : LogRefusal) (answer : Result X MakeRefusal) → SpellsRoot body (first_root settings)
-      → IsEmptyJournal journal → faults old ≤ faults mid
-      → Appends seen may_leave moment left_since {T = T} faults 2 body journal after mid new (Err why)
-      → IsErrAnd answer (λ e. e ≡ make.Fault) → Blames make.Fault (faults old) (faults new) answer
-  first_cause body faults journal after old mid new why (Ok v) spelled empty later appends failed = absurd failed
-  first_cause body faults journal after old mid new why (Err e) spelled empty later appends failed =
+      → IsEmptyJournal journal → of_disk.faults old ≤ of_disk.faults mid
+      → Appends of_disk {T = T} 2 body journal after mid new (Err why)
+      → IsErrAnd answer (λ e. e ≡ make.Fault) → Blames make.Fault (of_disk.faults old) (of_disk.faults new) answer
+  first_cause body journal after old mid new why (Ok v) spelled empty later appends failed = absurd failed
+  first_cause body journal after old mid new why (Err e) spelled empty later appends failed =
       let more = appends.answer.later in
-      let rose : Rose (faults mid) (faults new) = (rw (first_refused body faults journal after mid new why spelled
+      let rose : Rose (of_disk.faults mid) (of_disk.faults new) = (rw (first_refused body journal after mid new why spelled
       empty appends) at appends.answer.answer).2 in
       record { later = omega (arith, later, more); rose = λ is. omega (arith, later, rose) }

@@ -1,22 +1,23 @@
 -- What a call on one log of a journal leaves of the others.
-use Rattle.std.proofs.Common.{◌≡◌, ◌≢◌, ⊎_elim, ◌<◌, ◌≤◌, ◌+◌, ◌∙◌, refl, sym, subst, ℕ, zero, suc, List, [], ◌∷◌, ◌++◌, length, Option, Result, Ok, Err, MatchResult, arith}
+use Rattle.std.proofs.Common.{◌≡◌, ◌≢◌, ⊎_elim, ◌<◌, ◌≤◌, ◌+◌, ◌∙◌, refl, sym, subst, ℕ, zero, suc, List, [], ◌∷◌, ◌++◌, length, Result, Ok, Err, MatchResult, arith}
 use Rattle.std.proofs.lemmas.Bool.{cases_eq, eq-eqb, ne_eqb}
-use Rattle.disk_model.specs.Logs.{Image, Outcomes}
-use Rattle.disk_model.specs.Moments.{Throughout}
+use Rattle.disk_model.specs.declared.disk.Disk
+use Rattle.disk_model.specs.Logs.{Image}
 use Rattle.disk_model.specs.declared.disk.TheConstants.{LOG_COUNT}
 use Rattle.frame_log.specs.Calls.{AppendAnswers}
 use Rattle.frame_log.specs.Calls as log
 use Rattle.frame_log.specs.Frames.{MayHave}
-use Rattle.frame_log.specs.Standing.{Holds, IsWithin, KeepsToLog, Leaves, SparesOthers, Stands, file_of}
+use Rattle.frame_log.specs.LogStates.{Holds, IsWithin, KeepsToLog, Leaves, Represents, file_of}
+use Rattle.disk_model.specs.Stretches.{Since, SparesOthers}
 use Rattle.frame_log.specs.declared.refusal.LogRefusal.{LogRefusal}
-use Rattle.frame_log.proofs.OtherLemmas.{becomes_other, other_left, other_stands}
+use Rattle.frame_log.proofs.OtherLemmas.{becomes_other, other_left, other_represents}
 use Rattle.frame_log.proofs.Steps.{leaves_may}
 use Rattle.frame_log.proofs.Stretches.{throughout_weaker}
 use Rattle.journal_meaning.specs.Bodies.{Bodies, MayHaveBodies}
 use Rattle.journal_meaning.specs.Laws.{no_bodies}
 use Rattle.journal_meaning.specs.Shown.{only_body, with_body}
 use Rattle.journal.specs.Calls.{Adds, Appends}
-use Rattle.journal.specs.Standing.{AreWithin, OnlyLog, StandsWith, log_of}
+use Rattle.journal.specs.JournalStates.{AreWithin, OnlyLog, LogsRepresent, log_of}
 use Rattle.journal.specs.declared.journal.Journal.{Journal}
 use Rattle.journal.proofs.Stretches.{throughout_all}
 
@@ -45,105 +46,103 @@ pub each_log : (P : ℕ → Type 0) (file : ℕ) → P file → ((other : ℕ) �
     → (k : ℕ) → k < LOG_COUNT → P k
 each_log P file here there k lt = ⊎_elim (λ is. subst P (sym is) here) (λ apart. there k lt apart) (cases_eq k file)
 
-module _ {D : Type 0} (seen : D → Option Image) (may_leave : D → Outcomes) (moment : D → ℕ)
-    (left_since : D → ℕ → Outcomes) (file : ℕ) (old new : Journal) (before after : D)
-    (only : OnlyLog file old new) (spares : SparesOthers seen may_leave moment left_since file before after) where
+module _ {D : Type 0} (of_disk : Disk.Ghosts D) (file : ℕ) (old new : Journal) (before after : D)
+    (only : OnlyLog file old new) (spares : SparesOthers of_disk file before after) where
   -- where the last gate of this log lies in its file, that of each does
-  pub stays_within : IsWithin (log_of new file) (seen after) → AreWithin old (seen before) → AreWithin new (seen after)
+  pub stays_within : IsWithin (log_of new file) (of_disk.seen after) → AreWithin old (of_disk.seen before) → AreWithin new (of_disk.seen after)
   stays_within here within = record {
-    each = each_log (λ k. IsWithin (log_of new k) (seen after)) file here
+    each = each_log (λ k. IsWithin (log_of new k) (of_disk.seen after)) file here
         (λ other lt apart. let same = only.others other lt apart in let is = file_is old other lt in
         rw same (becomes_other (λ bytes. (log_of old other).end + 1 ≤ length bytes) file (file_of (log_of old other))
-        (seen before) (seen after) (λ e. apart (sym is ∙ e)) spares.reads (within.each other lt)));
+        (of_disk.seen before) (of_disk.seen after) (λ e. apart (sym is ∙ e)) spares.reads (within.each other lt)));
   }
 
-  -- where this log stands so, each does
-  pub stands_with : ((t : ℕ) (c : Image) → t ≤ moment after → may_leave after c → left_since after t c)
+  -- where this log has its frames, each does
+  pub represents_with : ((t : ℕ) (c : Image) → t ≤ of_disk.moment after → of_disk.may_leave after c → of_disk.left_since after t c)
       → (kept held more : Bodies) → ((other : ℕ) → other ≢ file → held other ≡ kept other)
       → ((other : ℕ) → other ≢ file → more other ≡ [])
-      → Stands seen may_leave (log_of new file) after (held file) (more file)
-      → StandsWith seen may_leave old before kept no_bodies → StandsWith seen may_leave new after held more
-  stands_with counts kept held more same none here stands = record {
-    each = each_log (λ k. Stands seen may_leave (log_of new k) after (held k) (more k)) file here
+      → Represents of_disk (log_of new file) after (held file) (more file)
+      → LogsRepresent of_disk old before kept no_bodies → LogsRepresent of_disk new after held more
+  represents_with counts kept held more same none here represents = record {
+    each = each_log (λ k. Represents of_disk (log_of new k) after (held k) (more k)) file here
         (λ other lt apart. let is = file_is old other lt in
         rw (only.others other lt apart, same other apart, none other apart)
-        (other_stands seen may_leave moment left_since file (log_of old other) before after (λ e. apart (sym is ∙ e))
-        spares (kept other) [] counts (stands.each other lt)));
+        (other_represents of_disk file (log_of old other) before after (λ e. apart (sym is ∙ e))
+        spares (kept other) [] counts (represents.each other lt)));
   }
 
   -- at each moment a crash leaves of this log what it has or may have, and the others as they were
   pub may_have_bodies : (kept held more : Bodies) → ((other : ℕ) → other ≢ file → held other ≡ kept other)
       → ((other : ℕ) → other ≢ file → more other ≡ [])
-      → Throughout (moment before) (moment after) (left_since before) (left_since after)
+      → Since of_disk before after
       (λ c. MayHave (held file) (more file) (c file))
-      → StandsWith seen may_leave old before kept no_bodies
-      → Throughout (moment before) (moment after) (left_since before) (left_since after) (MayHaveBodies held more)
-  may_have_bodies kept held more same none here stands =
+      → LogsRepresent of_disk old before kept no_bodies
+      → Since of_disk before after (MayHaveBodies held more)
+  may_have_bodies kept held more same none here represents =
       throughout_all LOG_COUNT _ _ _ _ (λ k c. MayHave (held k) (more k) (c k)) here.later here.keeps
-      (each_log (λ k. Throughout (moment before) (moment after) (left_since before) (left_since after)
+      (each_log (λ k. Since of_disk before after
       (λ c. MayHave (held k) (more k) (c k))) file here
       (λ other lt apart.
       let is = file_is old other lt in
       let log = log_of old other in
       throughout_weaker _ _ _ _ (λ c. Leaves log.state (kept other) [] (c log.file))
       (λ c. MayHave (held other) (more other) (c other))
-      (other_left seen may_leave moment left_since file log before after (λ e. apart (sym is ∙ e)) spares
-      (kept other) [] (stands.each other lt))
+      (other_left of_disk file log before after (λ e. apart (sym is ∙ e)) spares
+      (kept other) [] (represents.each other lt))
       (λ c leaves. rw (none other apart, same other apart)
       (leaves_may log.state (kept other) [] (c other) (rw is at leaves)))))
 
   -- at each moment a crash leaves the frames with the new one, or without it
-  any_added : (body : List ℕ) (kept : Bodies) → StandsWith seen may_leave old before kept no_bodies
-      → Throughout (moment before) (moment after) (left_since before) (left_since after)
+  any_added : (body : List ℕ) (kept : Bodies) → LogsRepresent of_disk old before kept no_bodies
+      → Since of_disk before after
       (λ c. MayHave (kept file) (body ∷ []) (c file))
-      → Throughout (moment before) (moment after) (left_since before) (left_since after)
+      → Since of_disk before after
       (MayHaveBodies kept (only_body file body))
-  any_added body kept stands here =
+  any_added body kept represents here =
       may_have_bodies kept kept (only_body file body) (λ other apart. refl) (λ other apart. only_there file body other
       apart)
-      (rw only_here here) stands
+      (rw only_here here) represents
 
   pub added : {T : Type 0} (body : List ℕ) (result : Result T LogRefusal) (kept : Bodies)
-      → ((t : ℕ) (c : Image) → t ≤ moment after → may_leave after c → left_since after t c)
-      → StandsWith seen may_leave old before kept no_bodies
-      → MatchResult result (λ _. Holds seen may_leave (log_of new file) after (kept file ++ body ∷ []))
-      (λ _. Stands seen may_leave (log_of new file) after (kept file) (body ∷ []))
-      → Throughout (moment before) (moment after) (left_since before) (left_since after)
+      → ((t : ℕ) (c : Image) → t ≤ of_disk.moment after → of_disk.may_leave after c → of_disk.left_since after t c)
+      → LogsRepresent of_disk old before kept no_bodies
+      → MatchResult result (λ _. Holds of_disk (log_of new file) after (kept file ++ body ∷ []))
+      (λ _. Represents of_disk (log_of new file) after (kept file) (body ∷ []))
+      → Since of_disk before after
       (λ c. MayHave (kept file) (body ∷ []) (c file))
-      → Adds seen may_leave moment left_since file body new before after kept result
-  added body (Ok v) kept counts stands now here = record {
-    now = stands_with counts kept (with_body kept file body) no_bodies (body_there kept file body)
-        (λ other apart. refl) (rw body_here now.stands) stands;
-    any_moment = any_added body kept stands here;
+      → Adds of_disk file body new before after kept result
+  added body (Ok v) kept counts represents now here = record {
+    now = represents_with counts kept (with_body kept file body) no_bodies (body_there kept file body)
+        (λ other apart. refl) (rw body_here now.represents) represents;
+    any_moment = any_added body kept represents here;
   }
-  added body (Err e) kept counts stands now here = record {
-    now = stands_with counts kept kept (only_body file body) (λ other apart. refl)
-        (only_there file body) (rw only_here now) stands;
-    any_moment = any_added body kept stands here;
+  added body (Err e) kept counts represents now here = record {
+    now = represents_with counts kept kept (only_body file body) (λ other apart. refl)
+        (only_there file body) (rw only_here now) represents;
+    any_moment = any_added body kept represents here;
   }
 
--- a frame that one log took, or refused, was appended to the journal, or refused
-module _ {D : Type 0} (seen : D → Option Image) (may_leave : D → Outcomes) (moment : D → ℕ)
-    (left_since : D → ℕ → Outcomes) (file : ℕ) (lt : file < LOG_COUNT) (old new : Journal) (before after : D)
+-- a frame that one log took or refused, the journal took or refused
+module _ {D : Type 0} (of_disk : Disk.Ghosts D) (file : ℕ) (lt : file < LOG_COUNT) (old new : Journal) (before after : D)
     (only : OnlyLog file old new)
-    (keeps : KeepsToLog seen may_leave moment left_since (log_of new file) before after) where
-  pub spares : SparesOthers seen may_leave moment left_since file before after
+    (keeps : KeepsToLog of_disk (log_of new file) before after) where
+  pub spares : SparesOthers of_disk file before after
   spares = let is = file_is new file lt in rw is at keeps.others
 
-  pub all_within : AreWithin old (seen before) → AreWithin new (seen after)
-  all_within = stays_within seen may_leave moment left_since file old new before after only spares keeps.within
+  pub all_within : AreWithin old (of_disk.seen before) → AreWithin new (of_disk.seen after)
+  all_within = stays_within of_disk file old new before after only spares keeps.within
 
-  pub appends : {T : Type 0} (faults : D → ℕ) (body : List ℕ) (result : Result T LogRefusal)
-      → ((t : ℕ) (c : Image) → t ≤ moment after → may_leave after c → left_since after t c)
-      → AppendAnswers faults (log_of old file) (log_of new file) before after (length body) result
-      → log.Adds seen may_leave moment left_since body (log_of old file) (log_of new file) before after result
-      → Appends seen may_leave moment left_since faults file body old new before after result
-  appends faults body result counts answer frames = record {
+  pub appends : {T : Type 0} (body : List ℕ) (result : Result T LogRefusal)
+      → ((t : ℕ) (c : Image) → t ≤ of_disk.moment after → of_disk.may_leave after c → of_disk.left_since after t c)
+      → AppendAnswers of_disk.faults (log_of old file) (log_of new file) before after (length body) result
+      → log.Adds of_disk body (log_of old file) (log_of new file) before after result
+      → Appends of_disk file body old new before after result
+  appends body result counts answer frames = record {
     answer = answer;
-    frames = λ kept stands up.
+    frames = λ kept represents up.
         let is = file_is new file lt in
-        let leads = frames (kept file) (record { good = up; stands = stands.each file lt }) in
-        added seen may_leave moment left_since file old new before after only spares body result kept counts stands
+        let leads = frames (kept file) (record { good = up; represents = represents.each file lt }) in
+        added of_disk file old new before after only spares body result kept counts represents
         leads.now (rw is at leads.any_moment);
     others = only;
   }

@@ -7,7 +7,7 @@ use Rattle.std.proofs.lemmas.List.{length-map}
 use Rattle.std.proofs.lemmas.List.Elements.{All-append, All-contains, All-same, Contains-append_right}
 use Rattle.doc_meaning.specs.History.{Base, History, front, settings_of}
 use Rattle.journal_bodies.specs.Roots.{PlainRoot}
-use Rattle.journal_meaning.specs.Bodies.{AreRoots, IsJournal, IsWithoutFiles, Numbered, TellsEntries, TellsRoot, in_turn, past}
+use Rattle.journal_meaning.specs.Bodies.{AreRoots, IsJournal, IsWithoutFiles, Numbered, TellsEntries, TellsRoot, by_first_number, past}
 use Rattle.journal_meaning.specs.Current.{Chooses, GoesOn, StartsAnew}
 use Rattle.journal_meaning.specs.Damages.{IsBelowHorizon, IsFound, gate_of, other_of, own_of}
 use Rattle.journal_meaning.specs.Shown.{IsBaseOf, IsCurrent, TakesNext, Tells, TellsAt, without_first}
@@ -43,10 +43,10 @@ base_of root = record {
 abbrev pub history_of : PlainRoot → Replay → History
 history_of root replay = record { base = base_of root; entries = map (λ e. e.1) replay.entries.items }
 
-length_in_turn : (some others : List Numbered) → length (in_turn some others) ≡ length some + length others
-length_in_turn [] others = omega arith
-length_in_turn (e ∷ some) [] = omega (arith, length-append (e ∷ some) [])
-length_in_turn (e ∷ some) (f ∷ others) = cond_both (nat_le e.0 f.0) ((e ∷ some) ++ f ∷ others) ((f ∷ others) ++ e ∷
+length_by_first_number : (some others : List Numbered) → length (by_first_number some others) ≡ length some + length others
+length_by_first_number [] others = omega arith
+length_by_first_number (e ∷ some) [] = omega (arith, length-append (e ∷ some) [])
+length_by_first_number (e ∷ some) (f ∷ others) = cond_both (nat_le e.0 f.0) ((e ∷ some) ++ f ∷ others) ((f ∷ others) ++ e ∷
     some)
     (λ l. length l ≡ length (e ∷ some) + length (f ∷ others)) (λ le. length-append (e ∷ some) (f ∷ others))
     (λ gt. omega (arith, length-append (f ∷ others) (e ∷ some)))
@@ -164,7 +164,7 @@ module _ (first second third fourth : List (List ℕ)) (root : PlainRoot) (file 
     front_is b =
         let entries = told.replays.entries in
         let long = length-map replay.entries.items (λ (e : Numbered). e.1) in
-        let all = length_in_turn (past root.checkpoint told.entries_0) (past root.checkpoint told.entries_1) in
+        let all = length_by_first_number (past root.checkpoint told.entries_0) (past root.checkpoint told.entries_1) in
         omega (arith, long, all, lengths_either b told.entries_0 told.entries_1 root.checkpoint, ap length entries)
 
     -- where none is past the checkpoint
@@ -172,7 +172,7 @@ module _ (first second third fourth : List (List ℕ)) (root : PlainRoot) (file 
         → map (λ (e : Numbered). e.1) replay.entries.items ≡ []
     none_told none also =
         let entries = told.replays.entries in
-        let same : replay.entries.items ≡ [] = entries ∙ ap₂ in_turn none also in
+        let same : replay.entries.items ≡ [] = entries ∙ ap₂ by_first_number none also in
         ap (map (λ (e : Numbered). e.1)) same
 
     takes_next : (file : ℕ) → StartsAnew root.checkpoint told.entries_0 told.entries_1 file false

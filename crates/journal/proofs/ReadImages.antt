@@ -1,11 +1,12 @@
 -- An image whose logs were read.
 use Rattle.std.proofs.Common.{◌≡◌, ◌⊎◌, inl, inr, ⊎_elim, ◌<◌, ◌∙◌, refl, sym, subst, ℕ, zero, suc, List, [], Option, Some, None, IfSome, Result, Ok, Err, IfErr, IsErrAnd, arith}
 use Rattle.std.specs.Prelude.{if◌then◌else◌, ◌==◌}
-use Rattle.disk_model.specs.Logs.{Image, Outcomes}
+use Rattle.disk_model.specs.declared.disk.Disk
+use Rattle.disk_model.specs.Logs.{Image}
 use Rattle.disk_model.specs.declared.disk.TheConstants.{LOG_COUNT}
 use Rattle.disk_model.specs.declared.file_name.FileName.TheVariants.{Log, Sealed}
 use Rattle.frame_log.specs.Frames.{HasFrames}
-use Rattle.frame_log.specs.Standing.{IsUp, Stands}
+use Rattle.frame_log.specs.LogStates.{IsUp, Represents}
 use Rattle.journal_bodies.specs.Roots.{PlainRoot}
 use Rattle.journal_meaning.specs.Damages.{BreaksStep, BreaksTurn, IsBelowHorizon, gate_of}
 use Rattle.journal_reading.specs.Reading.{items_of}
@@ -14,20 +15,20 @@ use Rattle.journal.specs.EntryReading.{IsOutOfTurn}
 use Rattle.journal.specs.LogReading.{IsRead, four}
 use Rattle.journal.specs.Refusals.{journal_refusal}
 use Rattle.journal.specs.Refusing.{AreUnreadJournals, NotScanned}
-use Rattle.journal.specs.Standing.{log_of}
+use Rattle.journal.specs.JournalStates.{log_of}
 use Rattle.journal.specs.declared.journals.Journals.{Journals}
 use Rattle.journal.specs.declared.opening.ReadAll.{ReadAll}
 use Rattle.journal.specs.declared.reading.EntryLog.{EntryLog}
 use Rattle.journal.specs.declared.refusal.JournalRefusal.{JournalRefusal}
 use Rattle.journal.specs.declared.refusal.JournalRefusal.TheVariants as refusal
-use Rattle.journal.specs.declared.refusal.NotRead.{NotRead}
-use Rattle.journal.specs.declared.refusal.NotRead.TheVariants.{Damaged, Fault, Memory}
+use Rattle.journal_reading.specs.declared.unread.LogBad.{LogBad}
+use Rattle.journal_reading.specs.declared.unread.LogBad.TheVariants.{Damaged, Fault, Memory}
 use Rattle.journal.specs.declared.root_logs.NewestRoot.{NewestRoot}
 use Rattle.journal.proofs.EntryReads.{four_have}
 use Rattle.journal.proofs.Opens.{Found, Replayed, history_of, history_told, is_base, root_told, told_at}
 
--- why a call failed is told of what it called
-pub failed_by : {T : Type 0} (result : Result T JournalRefusal) (why : NotRead) (P : JournalRefusal → Type 0)
+-- why a call failed, from why what it called failed
+pub failed_by : {T : Type 0} (result : Result T JournalRefusal) (why : LogBad) (P : JournalRefusal → Type 0)
     → IsErrAnd result (λ e. e ≡ journal_refusal why) → P (journal_refusal why) → IfErr result P
 failed_by (Ok v) why P failed is = tt
 failed_by (Err e) why P failed is = let same : e ≡ journal_refusal why = failed in rw same is
@@ -36,7 +37,7 @@ module _ (image : Image) (third fourth : List (List ℕ)) (root : PlainRoot) (fi
     root file k)
     (root_0 : HasFrames third (image 2)) (root_1 : HasFrames fourth (image 3)) where
   -- a journal breaks a rule by itself
-  pub journals_unread : (why : NotRead) → AreUnreadJournals image why → NotScanned image (journal_refusal why)
+  pub journals_unread : (why : LogBad) → AreUnreadJournals image why → NotScanned image (journal_refusal why)
   journals_unread Fault is = tt
   journals_unread Memory is = tt
   journals_unread (Damaged (Sealed number) place) is = absurd is
@@ -79,7 +80,7 @@ pub turns_unread : (image : Image) (third fourth : List (List ℕ)) (root : Plai
     → Found third fourth root file k → HasFrames third (image 2) → HasFrames fourth (image 3) → (first second :
     EntryLog)
     → HasFrames (items_of first.bodies.items) (image 0) → HasFrames (items_of second.bodies.items) (image 1)
-    → (why : NotRead) → IsOutOfTurn root first second why → NotScanned image (journal_refusal why)
+    → (why : LogBad) → IsOutOfTurn root first second why → NotScanned image (journal_refusal why)
 turns_unread image third fourth root file k found root_0 root_1 first second journal_0 journal_1 Fault is = tt
 turns_unread image third fourth root file k found root_0 root_1 first second journal_0 journal_1 Memory is = tt
 turns_unread image third fourth root file k found root_0 root_1 first second journal_0 journal_1 (Damaged (Sealed
@@ -105,17 +106,17 @@ pub if_some_four : {A : Type 0} {P Q R S X : A → Type 0} (o : Option A) → If
 if_some_four None p q r s then_x = tt
 if_some_four (Some x) p q r s then_x = then_x x p q r s
 
-module _ {D : Type 0} (seen : D → Option Image) (may_leave : D → Outcomes) (old new : D) (newest : NewestRoot)
+module _ {D : Type 0} (of_disk : Disk.Ghosts D) (old new : D) (newest : NewestRoot)
     (journals : Journals) (all : ReadAll) (assembles : Assembles newest journals all)
     (first second third fourth : List (List ℕ))
-    (journal_0 : IsRead seen may_leave 0 old new journals.journal_0 first)
-    (journal_1 : IsRead seen may_leave 1 old new journals.journal_1 second)
-    (root_0 : IsRead seen may_leave 2 old new newest.root_0 third)
-    (root_1 : IsRead seen may_leave 3 old new newest.root_1 fourth) where
+    (journal_0 : IsRead of_disk 0 old new journals.journal_0 first)
+    (journal_1 : IsRead of_disk 1 old new journals.journal_1 second)
+    (root_0 : IsRead of_disk 2 old new newest.root_0 third)
+    (root_1 : IsRead of_disk 3 old new newest.root_1 fourth) where
   pub reads_all : (image : Image) (k : ℕ) → Found third fourth newest.root newest.file k
       → Replayed first second newest.root journals.replay → (journals.replay.merge < newest.root.horizon → ⊥)
       → HasFrames first (image 0) → HasFrames second (image 1) → HasFrames third (image 2) → HasFrames fourth (image 3)
-      → ReadsAll seen may_leave image old new all
+      → ReadsAll of_disk image old new all
   reads_all image k found told high has_0 has_1 has_2 has_3 =
       let at_0 = assembles.journal_0 in
       let at_1 = assembles.journal_1 in
@@ -145,13 +146,13 @@ module _ {D : Type 0} (seen : D → Option Image) (may_leave : D → Outcomes) (
         };
         up = each_of_four (λ n. IsUp (log_of all.journal n)) (rw at_0 journal_0.up) (rw at_1 journal_1.up)
             (rw at_2 root_0.up) (rw at_3 root_1.up);
-        stands = λ told_now settled. record {
-          each = each_of_four (λ n. Stands seen may_leave (log_of all.journal n) new (four first second third fourth
+        represents = λ told_now settled. record {
+          each = each_of_four (λ n. Represents of_disk (log_of all.journal n) new (four first second third fourth
               n) [])
-              (rw at_0 (journal_0.holds told_now (settled.each 0 (omega arith))).stands)
-              (rw at_1 (journal_1.holds told_now (settled.each 1 (omega arith))).stands)
-              (rw at_2 (root_0.holds told_now (settled.each 2 (omega arith))).stands)
-              (rw at_3 (root_1.holds told_now (settled.each 3 (omega arith))).stands);
+              (rw at_0 (journal_0.holds told_now (settled.each 0 (omega arith))).represents)
+              (rw at_1 (journal_1.holds told_now (settled.each 1 (omega arith))).represents)
+              (rw at_2 (root_0.holds told_now (settled.each 2 (omega arith))).represents)
+              (rw at_3 (root_1.holds told_now (settled.each 3 (omega arith))).represents);
         };
         tells = rw (assembles.resets, assembles.current) (told_at first second third fourth newest.root newest.file k
             found

@@ -1,28 +1,28 @@
 -- A log that was read, before and after other logs are.
-use Rattle.std.proofs.Common.{ℕ, List, Option}
-use Rattle.disk_model.specs.Logs.{Image, Outcomes}
-use Rattle.frame_log.specs.Standing.{Holds, OnlyRead}
+use Rattle.std.proofs.Common.{ℕ, List}
+use Rattle.disk_model.specs.declared.disk.Disk
+use Rattle.frame_log.specs.LogStates.{Holds}
+use Rattle.disk_model.specs.Stretches.{OnlyRead}
 use Rattle.frame_log.specs.declared.log.Log.{Log}
 use Rattle.journal.specs.LogReading.{IsRead}
 use Rattle.journal.proofs.Syncs.{settled_still}
 
-module _ {D : Type 0} (seen : D → Option Image) (may_leave : D → Outcomes) (moment : D → ℕ)
-    (left_since : D → ℕ → Outcomes) where
-  pub holds_later : (old new : D) (log : Log) (bodies : List (List ℕ)) → OnlyRead seen may_leave moment left_since old
+module _ {D : Type 0} (of_disk : Disk.Ghosts D) where
+  pub holds_later : (old new : D) (log : Log) (bodies : List (List ℕ)) → OnlyRead of_disk old
       new
-      → Holds seen may_leave log old bodies → Holds seen may_leave log new bodies
+      → Holds of_disk log old bodies → Holds of_disk log new bodies
   holds_later old new log bodies read holds = record {
     good = holds.good;
-    stands = record {
-      told = rw read.same holds.stands.told;
-      at_end = holds.stands.at_end;
-      images = λ c left. holds.stands.images c (read.fewer c left);
+    represents = record {
+      told = rw read.same holds.represents.told;
+      at_end = holds.represents.at_end;
+      images = λ c left. holds.represents.images c (read.fewer c left);
     };
   }
 
   pub read_later : (file : ℕ) (old mid new : D) (log : Log) (bodies : List (List ℕ))
-      → OnlyRead seen may_leave moment left_since mid new → IsRead seen may_leave file old mid log bodies
-      → IsRead seen may_leave file old new log bodies
+      → OnlyRead of_disk mid new → IsRead of_disk file old mid log bodies
+      → IsRead of_disk file old new log bodies
   read_later file old mid new log bodies read is = record {
     of_file = is.of_file;
     up = is.up;
@@ -33,8 +33,8 @@ module _ {D : Type 0} (seen : D → Option Image) (may_leave : D → Outcomes) (
   }
 
   pub read_earlier : (file : ℕ) (old mid new : D) (log : Log) (bodies : List (List ℕ))
-      → OnlyRead seen may_leave moment left_since old mid → IsRead seen may_leave file mid new log bodies
-      → IsRead seen may_leave file old new log bodies
+      → OnlyRead of_disk old mid → IsRead of_disk file mid new log bodies
+      → IsRead of_disk file old new log bodies
   read_earlier file old mid new log bodies read is = record {
     of_file = is.of_file;
     up = is.up;
@@ -42,5 +42,5 @@ module _ {D : Type 0} (seen : D → Option Image) (may_leave : D → Outcomes) (
     within = is.within;
     frames = rw read.same at is.frames;
     holds = λ told settled. is.holds (rw read.same told)
-        (settled_still file (seen old) (seen mid) (may_leave old) (may_leave mid) read.same read.fewer settled);
+        (settled_still file (of_disk.seen old) (of_disk.seen mid) (of_disk.may_leave old) (of_disk.may_leave mid) read.same read.fewer settled);
   }

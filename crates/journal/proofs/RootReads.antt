@@ -11,7 +11,7 @@ use Rattle.journal_bodies.specs.Roots.{PlainRoot, SpellsRoot}
 use Rattle.journal_meaning.specs.Bodies.{AreRoots}
 use Rattle.journal_meaning.specs.Damages.{IsFound}
 use Rattle.journal_reading.specs.Reading.{items_of}
-use Rattle.journal.specs.Refusing.{HasNoRoot}
+use Rattle.journal_meaning.specs.Directories.{HasNoRoot}
 
 -- lists of which one is empty
 pub zip_none : {A B : Type 0} (R : A → B → Type 0) (xs : List A) (ys : List B) → AllZip R xs ys → ys ≡ [] → xs ≡ []

@@ -1,15 +1,17 @@
 -- The logs of a directory, opened.
-use Rattle.std.proofs.Common.{ℕ, Bool, true, false, IsTrue, Option, IsSome, Result, Ok}
+use Rattle.std.proofs.Common.{ℕ, Bool, true, false, IsTrue, IsSome, Result, Ok}
 use Rattle.std.specs.Prelude.{if◌then◌else◌}
-use Rattle.disk_model.specs.Logs.{Image, Outcomes}
+use Rattle.disk_model.specs.declared.disk.Disk
+use Rattle.disk_model.specs.Logs.{Image}
 use Rattle.disk_model.specs.declared.disk.TheConstants.{LOG_COUNT}
 use Rattle.doc_meaning.specs.History.{History}
-use Rattle.frame_log.specs.Standing.{OnlyRead}
+use Rattle.disk_model.specs.Stretches.{OnlyRead}
 use Rattle.frame_log.specs.declared.refusal.LogRefusal.{LogRefusal}
 use Rattle.journal_meaning.specs.Bodies.{Bodies}
 use Rattle.journal_meaning.specs.Shown.{Tells, TellsAt, without_first}
 use Rattle.journal.specs.Assembling.{ReadsAll}
-use Rattle.journal.specs.Opening.{KeepsShown, Opened}
+use Rattle.journal.specs.Opening.{Opened}
+use Rattle.journal_meaning.specs.Directories.{KeepsShown}
 use Rattle.journal.specs.Reading.{AreSettled, AreTrimmed, AreUpTo, MakesReady, SameTurns}
 use Rattle.journal.specs.declared.journal.Journal.{Journal}
 use Rattle.journal.specs.declared.opening.ReadAll.{ReadAll}
@@ -20,14 +22,13 @@ told_lost : (resets : Bool) (read : Bodies) (file : ℕ) (h : History)
 told_lost true read file h told is = told.tells
 told_lost false read file h told is = absurd (cc)
 
-module _ {D : Type 0} (seen : D → Option Image) (may_leave : D → Outcomes) (moment : D → ℕ)
-    (left_since : D → ℕ → Outcomes) (start old mid new : D) (all : ReadAll) (journal : Journal) (image : Image)
-    (reads : ReadsAll seen may_leave image old mid all) (told : IsSome (seen old))
-    (settled : AreSettled LOG_COUNT (seen old) (may_leave old)) where
+module _ {D : Type 0} (of_disk : Disk.Ghosts D) (start old mid new : D) (all : ReadAll) (journal : Journal) (image : Image)
+    (reads : ReadsAll of_disk image old mid all) (told : IsSome (of_disk.seen old))
+    (settled : AreSettled LOG_COUNT (of_disk.seen old) (of_disk.may_leave old)) where
   pub opens : {T : Type 0} (v : T)
-      → MakesReady seen may_leave moment left_since all.journal journal mid new all.resets_first (Ok v)
-      → AreUpTo LOG_COUNT journal → AreTrimmed LOG_COUNT journal (seen new) (may_leave new)
-      → SameTurns all.journal journal → Opened seen may_leave image new journal all.scanned
+      → MakesReady of_disk all.journal journal mid new all.resets_first (Ok v)
+      → AreUpTo LOG_COUNT journal → AreTrimmed LOG_COUNT journal (of_disk.seen new) (of_disk.may_leave new)
+      → SameTurns all.journal journal → Opened of_disk image new journal all.scanned
   opens v ready up trimmed turns =
       let goes = reads.goes_on in
       record {
@@ -46,16 +47,16 @@ module _ {D : Type 0} (seen : D → Option Image) (may_leave : D → Outcomes) (
           is_frozen = rw turns.frozen goes.is_frozen;
         };
         up = up.each;
-        stands = ready.stands reads.read (reads.stands told settled);
+        represents = ready.represents reads.read (reads.represents told settled);
         tells = rw turns.current reads.tells;
         trimmed = trimmed.each;
       }
 
-  pub keeps_shown : {T : Type 0} (result : Result T LogRefusal) → may_leave start image
-      → OnlyRead seen may_leave moment left_since start mid
-      → MakesReady seen may_leave moment left_since all.journal journal mid new all.resets_first result
-      → KeepsShown may_leave moment left_since start new
+  pub keeps_shown : {T : Type 0} (result : Result T LogRefusal) → of_disk.may_leave start image
+      → OnlyRead of_disk start mid
+      → MakesReady of_disk all.journal journal mid new all.resets_first result
+      → KeepsShown of_disk start new
   keeps_shown result was only ready =
-      ready_shows seen may_leave moment left_since start mid new image reads.read reads.history all.resets_first was
+      ready_shows of_disk start mid new image reads.read reads.history all.resets_first was
       reads.has reads.scans.tells (told_lost all.resets_first reads.read _ reads.history reads.tells) only
-      (ready.any_moment reads.read (reads.stands told settled))
+      (ready.any_moment reads.read (reads.represents told settled))

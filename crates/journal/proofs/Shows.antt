@@ -1,16 +1,16 @@
 -- Images that show the same.
 use Rattle.std.proofs.Common.{◌≡◌, ◌⊎◌, ⊎_elim, ◌<◌, refl, sym, subst, ℕ, Bool, IsTrue, Option, Some, None, IsSome, IfSome, arith}
-use Rattle.disk_model.specs.Logs.{Image, Outcomes}
-use Rattle.disk_model.specs.Moments.{Throughout}
+use Rattle.disk_model.specs.declared.disk.Disk
+use Rattle.disk_model.specs.Logs.{Image}
 use Rattle.disk_model.specs.declared.disk.TheConstants.{LOG_COUNT}
 use Rattle.doc_meaning.specs.History.{Base, History}
-use Rattle.frame_log.specs.Standing.{OnlyRead}
+use Rattle.disk_model.specs.Stretches.{OnlyRead, Since}
 use Rattle.frame_log.proofs.Stretches.{throughout_then, throughout_weaker}
 use Rattle.journal_bodies.specs.Roots.{PlainRoot}
 use Rattle.journal_meaning.specs.Bodies.{Bodies, HasBodies, TellsEntries}
 use Rattle.journal_meaning.specs.Shown.{Shows, Tells, without_first}
 use Rattle.journal_meaning.proofs.OneLemmas.{one_frames, one_list_told, one_root_told, same_entries, same_root}
-use Rattle.journal.specs.Opening.{KeepsShown, ShowsAs}
+use Rattle.journal_meaning.specs.Directories.{KeepsShown, ShowsAs}
 
 -- what bodies tell the same bodies tell
 same_told : (some others : Bodies) (h : History) → ((file : ℕ) → file < LOG_COUNT → some file ≡ others file) →
@@ -65,33 +65,37 @@ shows_as some others h one two first second c d has also base = (
   shows_too some others h one two first second c d has also base,
 )
 
--- an image that is told
+-- an image that is known
 pub with_told : {A : Type 0} {P : A → Type 0} (Q : Type 0) (o : Option A) → IsSome o → IfSome o P → ((x : A) → P x →
     Q) → Q
 with_told Q None told has go = absurd (cc)
 with_told Q (Some x) told has go = go x has
 
-module _ {D : Type 0} (seen : D → Option Image) (may_leave : D → Outcomes) (moment : D → ℕ)
-    (left_since : D → ℕ → Outcomes) where
+-- an image, if it is known
+pub if_told : {A : Type 0} {P Q : A → Type 0} (o : Option A) → IfSome o P → (IsSome o → (x : A) → P x → Q x) → IfSome o Q
+if_told None has go = tt
+if_told (Some x) has go = go refl x has
+
+module _ {D : Type 0} (of_disk : Disk.Ghosts D) where
   -- what was only read shows what it showed
-  pub read_shows : (old new : D) → OnlyRead seen may_leave moment left_since old new
-      → KeepsShown may_leave moment left_since old new
-  read_shows old new read = throughout_weaker _ _ _ _ (may_leave old)
-      (λ c. (d : Image) × may_leave old d × ShowsAs d c) read.images
+  pub read_shows : (old new : D) → OnlyRead of_disk old new
+      → KeepsShown of_disk old new
+  read_shows old new read = throughout_weaker _ _ _ _ (of_disk.may_leave old)
+      (λ c. (d : Image) × of_disk.may_leave old d × ShowsAs d c) read.images
       (λ c was. (c, was, λ base. ((λ is. is), (λ is. is))))
 
   -- and so does what was cut, or lost the frames of its first log where none of them counts
-  pub ready_shows : (old mid new : D) (image : Image) (read : Bodies) (h : History) (resets : Bool) → may_leave old
+  pub ready_shows : (old mid new : D) (image : Image) (read : Bodies) (h : History) (resets : Bool) → of_disk.may_leave old
       image
       → HasBodies read image → Tells read h → (IsTrue resets → Tells (without_first read) h)
-      → OnlyRead seen may_leave moment left_since old mid
-      → Throughout (moment mid) (moment new) (left_since mid) (left_since new)
+      → OnlyRead of_disk old mid
+      → Since of_disk mid new
       (λ c. HasBodies read c ⊎ (IsTrue resets × HasBodies (without_first read) c))
-      → KeepsShown may_leave moment left_since old new
+      → KeepsShown of_disk old new
   ready_shows old mid new image read h resets was has told lost only all =
-      throughout_then _ _ _ _ _ _ (λ c. (d : Image) × may_leave old d × ShowsAs d c) (read_shows old mid only)
+      throughout_then _ _ _ _ _ _ (λ c. (d : Image) × of_disk.may_leave old d × ShowsAs d c) (read_shows old mid only)
       (throughout_weaker _ _ _ _ (λ c. HasBodies read c ⊎ (IsTrue resets × HasBodies (without_first read) c))
-      (λ c. (d : Image) × may_leave old d × ShowsAs d c) all
+      (λ c. (d : Image) × of_disk.may_leave old d × ShowsAs d c) all
       (λ c is. (
         image,
         was,

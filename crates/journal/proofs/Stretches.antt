@@ -1,7 +1,7 @@
 -- What holds of several logs at each moment.
 use Rattle.std.proofs.Common.{◌⊎◌, inl, inr, ⊎_elim, ◌<◌, ◌≤◌, sym, subst, ℕ, zero, suc, arith}
 use Rattle.std.proofs.lemmas.Bool.{cases_eq}
-use Rattle.disk_model.specs.Logs.{Image, Outcomes}
+use Rattle.disk_model.specs.Logs.{Image, CrashImages}
 use Rattle.disk_model.specs.Moments.{Throughout}
 
 -- one way out for each number below n, or none for all of them
@@ -15,7 +15,7 @@ all_or (suc n) A P each =
     (each n (omega arith)))
     (all_or n A P (λ k lt. each k (omega (arith, lt))))
 
-pub throughout_all : (n before now : ℕ) (past since : ℕ → Outcomes) (P : ℕ → Image → Type 0) → before ≤ now
+pub throughout_all : (n before now : ℕ) (past since : ℕ → CrashImages) (P : ℕ → Image → Type 0) → before ≤ now
     → ((t : ℕ) (c : Image) → t ≤ before → past t c → since t c)
     → ((k : ℕ) → k < n → Throughout before now past since (P k))
     → Throughout before now past since (λ c. (k : ℕ) → k < n → P k c)

@@ -1,4 +1,4 @@
-pub mod Standing
+pub mod JournalStates
 pub mod Calls
 pub mod Reading
 pub mod Refusals

@@ -1,11 +1,19 @@
--- What opening and making a directory's logs do.
-use Rattle.std.specs.Prelude.{ℕ, ◌≡◌, ◌⊎◌, ◌↔◌, ◌+◌, ◌<◌, Bool, IsTrue, List, map, Option, IsSome, if◌then◌else◌}
-use Rattle.disk_model.specs.Logs.{Image, Outcomes}
+-- What opening and making a directory's logs does.
+use Rattle.std.specs.Prelude.{ℕ, ◌≡◌, ◌≢◌, ◌⊎◌, ◌↔◌, ◌+◌, ◌<◌, Bool, IsTrue, List, map, IsSome, IfSome, if◌then◌else◌}
+use Rattle.disk_model.specs.declared.disk.Disk
+use Rattle.disk_model.specs.Logs.{Image}
 use Rattle.disk_model.specs.declared.disk.TheConstants.{LOG_COUNT}
 use Rattle.doc_model.specs.declared.settings.Settings.{Settings}
 use Rattle.doc_meaning.specs.History.{Base, BaseSettings, History, empty_base}
-use Rattle.frame_log.specs.Standing.{IsTrimmed, Since}
-use Rattle.journal.specs.Standing.{AreUp, StandsWith, current_of, log_of, owed_of}
+use Rattle.frame_log.specs.LogStates.{IsTrimmed}
+use Rattle.disk_model.specs.Stretches.{OnlyRead}
+use Rattle.journal.specs.Refusing.{NotMade, NotScanned}
+use Rattle.journal.specs.declared.refusal.JournalRefusal.{JournalRefusal}
+use Rattle.journal.specs.declared.refusal.JournalRefusal.TheVariants as refusal
+use Rattle.journal.specs.declared.refusal.MakeRefusal.{MakeRefusal}
+use Rattle.journal.specs.declared.refusal.MakeRefusal.TheVariants as make
+use Rattle.journal_meaning.specs.Directories.{HasNoRoot}
+use Rattle.journal.specs.JournalStates.{AreUp, AreWithin, LogsRepresent, current_of, log_of, owed_of}
 use Rattle.journal.specs.declared.journal.Journal.{Journal}
 use Rattle.journal.specs.declared.opening.Scanned.{Scanned}
 use Rattle.journal_bodies.specs.Roots.{SpellsRoot}
@@ -15,10 +23,6 @@ use Rattle.journal_meaning.specs.Damages.{other_of}
 use Rattle.journal_meaning.specs.Laws.{no_bodies}
 use Rattle.journal_meaning.specs.Shown.{IsBaseOf, Shows, Tells, TellsAt, first_root, only_body, without_first}
 
--- an image shows what another one shows, if that is a base
-abbrev pub ShowsAs : Image → Image → Type 0
-ShowsAs old new = (base : Base) → Shows new base ↔ Shows old base
-
 -- the root and the entries are those of this history
 pub record Scans (bodies : Bodies) (h : History) (scanned : Scanned) : Type 0 where
   pub tells : Tells bodies h
@@ -27,8 +31,7 @@ pub record Scans (bodies : Bodies) (h : History) (scanned : Scanned) : Type 0 wh
   pub entries : h.entries ≡ map (λ e. e.1) scanned.entries.items
   pub numbers : RiseFrom (h.base.front + 1) scanned.entries.items
 
--- the journal that goes on is the one that the entries choose, and the other one is frozen where it has some past the
--- checkpoint
+-- the entries choose the current journal, and the other one is frozen if it has entries past the checkpoint
 pub record GoesOnWith (read : Bodies) (scanned : Scanned) (journal : Journal) (resets : Bool) : Type 0 where
   pub entries_0 : List Numbered
   pub entries_1 : List Numbered
@@ -38,9 +41,9 @@ pub record GoesOnWith (read : Bodies) (scanned : Scanned) (journal : Journal) (r
   pub last : scanned.frozen ≡ last_of (past scanned.root.checkpoint (other_of (current_of journal) entries_0 entries_1))
   pub is_frozen : IsTrue journal.frozen ↔ IsSome scanned.frozen
 
-module _ {D : Type 0} (seen : D → Option Image) (may_leave : D → Outcomes) where
-  -- the journal stands with the frames that were read, but for those of a journal that was reset; nothing stands behind
-  -- them, and the next entry can be added
+module _ {D : Type 0} (of_disk : Disk.Ghosts D) where
+  -- the logs have the frames that were read, except those of a journal that was reset; no bytes follow them, and the
+  -- next entry can be appended
   pub record Opened (image : Image) (disk : D) (journal : Journal) (scanned : Scanned) : Type 0 where
     pub read : Bodies
     pub history : History
@@ -49,26 +52,38 @@ module _ {D : Type 0} (seen : D → Option Image) (may_leave : D → Outcomes) w
     pub scans : Scans read history scanned
     pub goes_on : GoesOnWith read scanned journal resets
     pub up : AreUp journal
-    pub stands : StandsWith seen may_leave journal disk (if resets then without_first read else read) no_bodies
+    pub represents : LogsRepresent of_disk journal disk (if resets then without_first read else read) no_bodies
     pub tells : TellsAt (if resets then without_first read else read) (current_of journal) history
-    pub trimmed : (file : ℕ) → file < LOG_COUNT → IsTrimmed (log_of journal file) (seen disk) (may_leave disk)
+    pub trimmed : (file : ℕ) → file < LOG_COUNT → IsTrimmed (log_of journal file) (of_disk.seen disk) (of_disk.may_leave disk)
 
-  -- the journal stands with the first root alone, and the first entry goes to journal 0
+  -- the logs have the first root alone, and journal 0 takes the first entry
   pub record Made (settings : Settings) (disk : D) (journal : Journal) : Type 0 where
     pub body : List ℕ
     pub first : SpellsRoot body (first_root settings)
     pub up : AreUp journal
-    pub stands : StandsWith seen may_leave journal disk (only_body 2 body) no_bodies
+    pub represents : LogsRepresent of_disk journal disk (only_body 2 body) no_bodies
     pub current : current_of journal ≡ 0
     pub owes : owed_of journal ≡ 0
 
-module _ {D : Type 0} (may_leave : D → Outcomes) (moment : D → ℕ) (left_since : D → ℕ → Outcomes) where
-  -- at each moment each image shows what one at the start showed
-  abbrev pub KeepsShown : D → D → Type 0
-  KeepsShown old new = Since moment left_since old new (λ c. (d : Image) × may_leave old d × ShowsAs d c)
+  -- the logs were opened: they are up, and show the history of the image if the disk's content is known
+  pub record OpensLogs (old new : D) (journal : Journal) (scanned : Scanned) : Type 0 where
+    pub found : IfSome (of_disk.seen old) (λ image. Opened image new journal scanned)
+    pub up : AreUp journal
+    pub within : AreWithin journal (of_disk.seen new)
+    pub rises : RiseFrom (scanned.root.checkpoint + 1) scanned.entries.items
 
-  -- at each moment each image shows what one at the start showed, or nothing, or the empty base of these settings
-  abbrev pub MakesShown : BaseSettings → D → D → Type 0
-  MakesShown settings old new = Since moment left_since old new (λ c.
-      ((d : Image) × may_leave old d × ShowsAs d c) ⊎ (((base : Base) → Shows c base → ⊥) ⊎ Shows c (empty_base
-      settings)))
+  -- the logs weren't opened for this reason, and the disk was only read unless it failed
+  pub record RefusesLogs (old new : D) (why : JournalRefusal) : Type 0 where
+    pub reason : IfSome (of_disk.seen old) (λ image. NotScanned image why)
+    pub kept : IsSome (of_disk.seen old) → why ≢ refusal.Fault → OnlyRead of_disk old new
+
+  -- the logs of an empty database were made: they are up, and there was no root if the disk's content is known
+  pub record MakesLogs (settings : Settings) (old new : D) (journal : Journal) : Type 0 where
+    pub made : IfSome (of_disk.seen old) (λ image. HasNoRoot image × Made settings new journal)
+    pub up : AreUp journal
+    pub within : AreWithin journal (of_disk.seen new)
+
+  -- the logs weren't made for this reason, and the disk was only read unless it failed
+  pub record RefusesNewLogs (old new : D) (why : MakeRefusal) : Type 0 where
+    pub reason : IfSome (of_disk.seen old) (λ image. NotMade image why)
+    pub kept : why ≢ make.Fault → OnlyRead of_disk old new

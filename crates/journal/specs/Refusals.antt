@@ -7,28 +7,21 @@ use Rattle.journal.specs.declared.refusal.JournalRefusal.{JournalRefusal}
 use Rattle.journal.specs.declared.refusal.JournalRefusal.TheVariants as journal
 use Rattle.journal.specs.declared.refusal.MakeRefusal.{MakeRefusal}
 use Rattle.journal.specs.declared.refusal.MakeRefusal.TheVariants as make
-use Rattle.journal.specs.declared.refusal.NotRead.{NotRead}
-use Rattle.journal.specs.declared.refusal.NotRead.TheVariants as read
-use Rattle.journal_reading.specs.declared.unread.Unread.{Unread}
-use Rattle.journal_reading.specs.declared.unread.Unread.TheVariants as unread
+use Rattle.journal_reading.specs.declared.unread.LogBad.{LogBad}
+use Rattle.journal_reading.specs.declared.unread.LogBad.TheVariants as read
 
--- a scan's refusal, told of this log
-abbrev pub of_scan : ℕ → ScanRefusal → NotRead
+-- the refusal of a scan of this log
+abbrev pub of_scan : ℕ → ScanRefusal → LogBad
 of_scan file scan.Fault = read.Fault
 of_scan file (scan.Damaged place) = read.Damaged (Log file) place
 of_scan file scan.Memory = read.Memory
 
--- why the bodies of this log weren't read
-abbrev pub of_unread : ℕ → Unread → NotRead
-of_unread file (unread.Damaged place) = read.Damaged (Log file) place
-of_unread file unread.Memory = read.Memory
-
-abbrev pub journal_refusal : NotRead → JournalRefusal
+abbrev pub journal_refusal : LogBad → JournalRefusal
 journal_refusal (read.Damaged file place) = journal.Damaged file place
 journal_refusal read.Fault = journal.Fault
 journal_refusal read.Memory = journal.Memory
 
-abbrev pub make_refusal : NotRead → MakeRefusal
+abbrev pub make_refusal : LogBad → MakeRefusal
 make_refusal (read.Damaged file place) = make.Damaged file place
 make_refusal read.Fault = make.Fault
 make_refusal read.Memory = make.Memory

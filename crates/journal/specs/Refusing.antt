@@ -1,56 +1,40 @@
 -- Why a directory's logs weren't read or made.
-use Rattle.std.specs.Prelude.{ℕ, ◌≡◌, ◌⊎◌, List, [], ⊤}
+use Rattle.std.specs.Prelude.{ℕ, ◌≡◌, ◌⊎◌, ⊤}
 use Rattle.disk_model.specs.Logs.{Image}
 use Rattle.disk_model.specs.declared.file_name.FileName.{FileName}
 use Rattle.disk_model.specs.declared.file_name.FileName.TheVariants.{Log, Sealed}
-use Rattle.frame_log.specs.Frames.{HasFrames}
 use Rattle.journal.specs.declared.refusal.JournalRefusal.{JournalRefusal}
 use Rattle.journal.specs.declared.refusal.JournalRefusal.TheVariants as refusal
 use Rattle.journal.specs.declared.refusal.MakeRefusal.{MakeRefusal}
 use Rattle.journal.specs.declared.refusal.MakeRefusal.TheVariants as make
-use Rattle.journal.specs.declared.refusal.NotRead.{NotRead}
-use Rattle.journal.specs.declared.refusal.NotRead.TheVariants as unread
-use Rattle.journal_meaning.specs.Damages.{AreBadRootLogs, Damages, IsEntryLog, IsRootLog, JournalBreaks}
+use Rattle.journal_reading.specs.declared.unread.LogBad.{LogBad}
+use Rattle.journal_reading.specs.declared.unread.LogBad.TheVariants as unread
+use Rattle.journal_meaning.specs.Damages.{AreBadRootLogs, Damages, IsEntryLog, JournalBreaks}
+use Rattle.journal_meaning.specs.Directories.{HasNoRoot, IsTaken}
 
--- neither root log has a frame
-abbrev pub HasNoRoot : Image → Type 0
-HasNoRoot image = HasFrames [] (image 2) × HasFrames [] (image 3)
-
--- a root log has one
-pub record HasRoot (image : Image) : Type 0 where
-  pub file : ℕ
-  pub bodies : List (List ℕ)
-  pub root_log : (file ≡ 2) ⊎ (file ≡ 3)
-  pub frames : HasFrames bodies (image file)
-  pub some : bodies ≡ [] → ⊥
-
--- both root logs are logs of roots, and one has some
-abbrev pub IsTaken : Image → Type 0
-IsTaken image = IsRootLog (image 2) × IsRootLog (image 3) × HasRoot image
-
--- why a file's bytes were refused: they break a rule at this place
+-- the bytes of this file break a rule at this place
 abbrev pub AreDamaged : Image → FileName → ℕ → Type 0
 AreDamaged image (Log file) place = Damages image file place
 AreDamaged image (Sealed number) place = ⊥
 
--- the same of the root logs alone
+-- the bytes of this root log break a rule at this place
 abbrev pub AreDamagedRoots : Image → FileName → ℕ → Type 0
 AreDamagedRoots image (Log file) place = AreBadRootLogs image file place
 AreDamagedRoots image (Sealed number) place = ⊥
 
--- and of the journals, each by itself
+-- the bytes of this journal break a rule at this place
 abbrev pub AreDamagedJournals : Image → FileName → ℕ → Type 0
 AreDamagedJournals image (Log file) place = ((file ≡ 0) × JournalBreaks (image 0) place)
     ⊎ ((file ≡ 1) × IsEntryLog (image 0) × JournalBreaks (image 1) place)
 AreDamagedJournals image (Sealed number) place = ⊥
 
--- why root logs weren't read, and journals
-abbrev pub AreUnreadRoots : Image → NotRead → Type 0
+-- why the root logs weren't read, and why the journals weren't
+abbrev pub AreUnreadRoots : Image → LogBad → Type 0
 AreUnreadRoots image (unread.Damaged file place) = AreDamagedRoots image file place
 AreUnreadRoots image unread.Fault = ⊤
 AreUnreadRoots image unread.Memory = ⊤
 
-abbrev pub AreUnreadJournals : Image → NotRead → Type 0
+abbrev pub AreUnreadJournals : Image → LogBad → Type 0
 AreUnreadJournals image (unread.Damaged file place) = AreDamagedJournals image file place
 AreUnreadJournals image unread.Fault = ⊤
 AreUnreadJournals image unread.Memory = ⊤

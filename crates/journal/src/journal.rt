@@ -1,4 +1,5 @@
-// The logs of a directory.
+//! The logs of a directory.
+
 ghost use Rattle.std.specs.Prelude.{◌≡◌, ◌<◌, ◌≤◌, ◌+◌, ◌↔◌, ℕ, length, IsTrue};
 
 use disk_model::Disk;
@@ -12,7 +13,7 @@ pub struct Journal {
     pub(crate) root_0: Log,
     pub(crate) root_1: Log,
     pub(crate) current: u8,
-    // Whether the other journal has entries past the checkpoint, so that it isn't to be reset.
+    // Whether the other journal has entries past the checkpoint, so that it must not be reset.
     pub(crate) frozen: bool,
     ghost first_journal: { journal_0.file ≡ 0 },
     ghost second_journal: { journal_1.file ≡ 1 },
@@ -23,39 +24,37 @@ pub struct Journal {
 
 impl Journal {
     ghost use Rattle.disk_model.specs.declared.disk.TheConstants.{LOG_COUNT};
-    ghost use Rattle.frame_log.specs.Standing.{IsTouched, end_of};
-    ghost use Rattle.journal.specs.Calls.{Appends};
-    ghost use Rattle.journal.specs.Standing.{AreUp, AreWithin, HasEmptyRootLog, TakesRoot};
-    ghost use Rattle.journal.specs.Standing.{current_log, current_of, other_log, owed_of};
+    ghost use Rattle.frame_log.specs.LogStates.{IsGateUnknown, end_of};
+    ghost use Rattle.journal.specs.Calls.{Appends, AppendsRoot};
+    ghost use Rattle.journal.specs.JournalStates.{AreUp, AreWithin, HasEmptyRootLog};
+    ghost use Rattle.journal.specs.JournalStates.{current_log, current_of, other_log, owed_of};
 
-    /// Adds an entry's frame to the current journal. Once it answers Ok, each crash leaves it.
+    /// Appends an entry's frame to the current journal. After `Ok` the frame survives every crash.
     ///
-    /// Four device calls and no memory.
+    /// Makes four device calls, and allocates nothing.
     pub fn append_entry<D: Disk>(&mut self, disk: &mut D, frame: &Frame) -> Result<(), LogRefusal>
         requires { AreWithin self.old (D.seen disk.old) }
-        ensures entry { Appends D.seen D.may_leave D.moment D.left_since D.faults (current_of self.old) frame.now
-            self.old self.new disk.old disk.new result }
+        ensures entry { Appends D.Disk (current_of self.old) frame.now self.old self.new disk.old disk.new result }
         ensures within { AreWithin self.new (D.seen disk.new) }
     {
         self.append_to(self.current, disk, frame)
     }
 
-    /// Adds a root's frame to the root log that is empty, the first if both are. Once it answers Ok, each crash leaves
-    /// it.
+    /// Appends a root's frame to the empty root log, to the first if both are empty. After `Ok` the frame survives
+    /// every crash.
     ///
-    /// Four device calls and no memory.
+    /// Makes four device calls, and allocates nothing.
     pub fn append_root<D: Disk>(&mut self, disk: &mut D, frame: &Frame) -> Result<(), LogRefusal>
         requires within { AreWithin self.old (D.seen disk.old) }
         requires empty { HasEmptyRootLog self.old }
-        ensures root { (file : ℕ) × TakesRoot self.old file × Appends D.seen D.may_leave D.moment D.left_since
-            D.faults file frame.now self.old self.new disk.old disk.new result }
+        ensures root { AppendsRoot D.Disk frame.now self.old self.new disk.old disk.new result }
         ensures within { AreWithin self.new (D.seen disk.new) }
     {
         let file = if self.root_0.is_empty() { 2 } else { 3 };
         self.append_to(file, disk, frame)
     }
 
-    // Adds a frame to the log of this number.
+    // Appends a frame to the log of this number.
     fn append_to<D: Disk>(
         &mut self,
         file: u8,
@@ -64,8 +63,7 @@ impl Journal {
     ) -> Result<(), LogRefusal>
         requires file { file < LOG_COUNT }
         requires within { AreWithin self.old (D.seen disk.old) }
-        ensures frame { Appends D.seen D.may_leave D.moment D.left_since D.faults file frame.now
-            self.old self.new disk.old disk.new result }
+        ensures frame { Appends D.Disk file frame.now self.old self.new disk.old disk.new result }
         ensures within { AreWithin self.new (D.seen disk.new) }
     {
         match file {
@@ -93,8 +91,8 @@ impl Journal {
         self.current_journal().end_with(frame)
     }
 
-    /// How many logs are to be reset: the older root log where both have frames, and the journal that isn't current
-    /// where its frames are all up to the checkpoint.
+    /// How many logs are to be reset: the older root log if both have frames, and the journal that isn't current if it
+    /// has frames and none is past the checkpoint.
     pub fn owed(&self) -> u32
         ensures { result ≡ owed_of self.now }
     {
@@ -103,7 +101,7 @@ impl Journal {
         u32::from(owes_root) + u32::from(owes_journal)
     }
 
-    // The other one.
+    // The other journal.
     fn other_journal(&self) -> &Log
         ensures { result.now ≡ other_log self.now }
     {
@@ -123,10 +121,10 @@ impl Journal {
             || self.root_1.is_down()
     }
 
-    /// Whether a fault may have opened the gate behind the last entry.
+    /// Whether a failed call may have opened the gate after the last entry.
     pub fn is_entry_pending(&self) -> bool
-        ensures { IsTrue result ↔ IsTouched (current_log self.now) }
+        ensures { IsTrue result ↔ IsGateUnknown (current_log self.now) }
     {
-        self.current_journal().is_touched()
+        self.current_journal().is_gate_unknown()
     }
 }

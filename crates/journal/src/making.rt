@@ -1,13 +1,16 @@
-// Making the logs of an empty database.
+//! Making the logs of an empty database.
+
 ghost use Rattle.std.specs.Prelude.{◌≡◌, ◌≢◌, ◌⊎◌, ◌↔◌, [], IsTrue, IsSome, IfSome, IfOk, IfErr};
 ghost use Rattle.disk_model.specs.Causes.{HasCause};
 ghost use Rattle.doc_meaning.specs.History.{settings_of};
 ghost use Rattle.frame_log.specs.Calls.{Blames};
-ghost use Rattle.frame_log.specs.Standing.{IsEmpty, IsUp, IsWithin, OnlyRead, Since, file_of};
-ghost use Rattle.journal.specs.Making.{HasShortNames, IsEmptyJournal, IsUsed};
-ghost use Rattle.journal.specs.Opening.{Made, MakesShown};
-ghost use Rattle.journal.specs.Refusing.{HasNoRoot, NotMade};
-ghost use Rattle.journal.specs.Standing.{AreUp, AreWithin, StandsWith};
+ghost use Rattle.frame_log.specs.LogStates.{IsEmpty, IsUp, IsWithin, file_of};
+ghost use Rattle.disk_model.specs.Stretches.{OnlyRead, Since};
+ghost use Rattle.journal.specs.Making.{IsEmptyJournal};
+ghost use Rattle.doc_model.specs.Settings.{HasShortNames};
+ghost use Rattle.journal_meaning.specs.Directories.{IsUsed, HasNoRoot, MakesShown};
+ghost use Rattle.journal.specs.Opening.{MakesLogs, RefusesNewLogs};
+ghost use Rattle.journal.specs.JournalStates.{AreWithin, LogsRepresent};
 ghost use Rattle.journal.specs.declared.refusal.MakeRefusal.TheVariants.{Fault};
 ghost use Rattle.journal_bodies.specs.Roots.{SpellsRoot};
 ghost use Rattle.journal_meaning.specs.Laws.{no_bodies};
@@ -24,27 +27,20 @@ use journal_bodies::{Root, root_body};
 use sqlite_items::Items;
 use std::alloc::{AllocError, Global};
 
-/// Makes the logs of an empty database of these settings, where no root log has a root.
+/// Makes the logs of an empty database with these settings, if no root log has a root.
 ///
-/// The root logs are read first. Then both are synced, both journals are made empty whatever they hold, and the first
-/// root is appended to log 2.
+/// Reads the root logs first, and syncs both. Then empties both journals, whatever they hold, and appends the first
+/// root to log 2.
 pub fn make<D: Disk>(
     alloc: Global,
     disk: &mut D,
     settings: &Settings,
 ) -> Result<Journal, MakeRefusal>
     requires { HasShortNames settings.now }
-    ensures made { IfOk result (λ journal. IfSome (D.seen disk.old) (λ image.
-        HasNoRoot image × Made D.seen D.may_leave settings.now disk.new journal)) }
-    ensures refused { IfErr result (λ why. IfSome (D.seen disk.old) (λ image. NotMade image why)) }
-    ensures images { IsSome (D.seen disk.old) →
-        MakesShown D.may_leave D.moment D.left_since (settings_of settings.now) disk.old disk.new }
-    ensures used { IfSome (D.seen disk.old) (λ image. IsUsed image →
-        OnlyRead D.seen D.may_leave D.moment D.left_since disk.old disk.new) }
-    ensures kept { IfErr result (λ why. why ≢ Fault →
-        OnlyRead D.seen D.may_leave D.moment D.left_since disk.old disk.new) }
-    ensures up { IfOk result (λ journal. AreUp journal) }
-    ensures within { IfOk result (λ journal. AreWithin journal (D.seen disk.new)) }
+    ensures made { IfOk result (MakesLogs D.Disk settings.now disk.old disk.new) }
+    ensures refused { IfErr result (RefusesNewLogs D.Disk disk.old disk.new) }
+    ensures images { IsSome (D.seen disk.old) → MakesShown D.Disk (settings_of settings.now) disk.old disk.new }
+    ensures used { IfSome (D.seen disk.old) (λ image. IsUsed image → OnlyRead D.Disk disk.old disk.new) }
     ensures cause { Blames Fault (D.faults disk.old) (D.faults disk.new) result }
 {
     let roots = read_root_logs(alloc, disk)?;
@@ -83,17 +79,17 @@ fn first_frame(alloc: Global, settings: &Settings) -> Result<Frame, AllocError>
     Frame::of(alloc, &body)
 }
 
-// Syncs empty root logs, and makes both journals empty.
+// Syncs the empty root logs, and empties both journals.
 fn empty_journal<D: Disk>(disk: &mut D, root_0: Log, root_1: Log) -> Result<Journal, Failed>
     requires files { (file_of root_0 ≡ 2) × (file_of root_1 ≡ 3) }
     requires up { IsUp root_0 × IsUp root_1 }
     requires empty { IsEmpty root_0 × IsEmpty root_1 }
     requires within { IsWithin root_0 (D.seen disk.old) × IsWithin root_1 (D.seen disk.old) }
     ensures journal { IfOk result IsEmptyJournal }
-    ensures stands { IfOk result (λ journal. IfSome (D.seen disk.old) (λ image. HasNoRoot image →
-        StandsWith D.seen D.may_leave journal disk.new no_bodies no_bodies)) }
+    ensures represents { IfOk result (λ journal. IfSome (D.seen disk.old) (λ image. HasNoRoot image →
+        LogsRepresent D.Disk journal disk.new no_bodies no_bodies)) }
     ensures images { IfSome (D.seen disk.old) (λ image. HasNoRoot image →
-        Since D.moment D.left_since disk.old disk.new (λ c. D.may_leave disk.old c ⊎ HasNoRoot c)) }
+        Since D.Disk disk.old disk.new (λ c. D.may_leave disk.old c ⊎ HasNoRoot c)) }
     ensures within { IfOk result (λ journal. AreWithin journal (D.seen disk.new)) }
     ensures cause { HasCause (D.faults disk.old) (D.faults disk.new) result }
 {

@@ -1,92 +1,67 @@
-// Why a directory's logs weren't read or made.
+//! Why a directory's logs weren't read or made.
+
 ghost use Rattle.std.specs.Prelude.{◌≡◌};
+ghost use Rattle.journal.specs.Refusals.{of_scan};
 
 use disk_model::{Failed, FileName};
 use frame_log::{LogRefusal, ScanRefusal};
-use journal_reading::Unread;
+use journal_reading::LogBad;
 use std::alloc::AllocError;
+use thiserror::Error;
 
 /// Why the logs weren't read.
-#[derive(Clone, Copy, Debug, PartialEq, Eq)]
+#[derive(Clone, Copy, Debug, PartialEq, Eq, Error)]
 pub enum JournalRefusal {
     /// Neither root log has a root.
+    #[error("there is no root")]
     NotThere,
-    /// The bytes break a rule at this place.
+    /// The bytes of this log break a rule at this place.
+    #[error("{file:?} breaks a rule at {place}")]
     Damaged { file: FileName, place: u64 },
     /// The disk failed.
+    #[error("the disk failed")]
     Fault,
+    #[error("out of memory")]
     Memory,
 }
 
 /// Why the logs of an empty database weren't made.
-#[derive(Clone, Copy, Debug, PartialEq, Eq)]
+#[derive(Clone, Copy, Debug, PartialEq, Eq, Error)]
 pub enum MakeRefusal {
     /// A root log has a root.
+    #[error("there is a root already")]
     AlreadyThere,
-    /// A root log breaks a rule at this place.
+    /// The bytes of this root log break a rule at this place.
+    #[error("{file:?} breaks a rule at {place}")]
     Damaged { file: FileName, place: u64 },
     /// The disk failed.
+    #[error("the disk failed")]
     Fault,
+    #[error("out of memory")]
     Memory,
 }
 
-// Why one log wasn't read.
-#[derive(Clone, Copy, Debug, PartialEq, Eq)]
-pub(crate) enum NotRead {
-    // The bytes break a rule at this place.
-    Damaged { file: FileName, place: u64 },
-    // The disk failed.
-    Fault,
-    Memory,
-}
-
-impl NotRead {
-    ghost use Rattle.disk_model.specs.declared.file_name.FileName.TheVariants.{Log};
-    ghost use Rattle.journal.specs.Refusals.{of_scan, of_unread};
-    ghost use Rattle.journal.specs.declared.refusal.NotRead.TheVariants.{Damaged};
-
-    // This log breaks a rule at this place.
-    pub(crate) fn at(file: u8, place: u64) -> NotRead
-        ensures { result ≡ Damaged (Log file) place }
-    {
-        NotRead::Damaged {
-            file: FileName::Log(file),
-            place,
-        }
-    }
-
-    // Why a scan of this log was refused.
-    pub(crate) fn scanning(file: u8, refusal: ScanRefusal) -> NotRead
-        ensures { result ≡ of_scan file refusal }
-    {
-        match refusal {
-            ScanRefusal::Fault => NotRead::Fault,
-            ScanRefusal::Damaged { place } => NotRead::at(file, place),
-            ScanRefusal::Memory => NotRead::Memory,
-        }
-    }
-
-    // Why the bodies of this log weren't read.
-    pub(crate) fn bodies(file: u8, unread: Unread) -> NotRead
-        ensures { result ≡ of_unread file unread }
-    {
-        match unread {
-            Unread::Damaged { place } => NotRead::at(file, place),
-            Unread::Memory => NotRead::Memory,
-        }
+// Why a scan of this log was refused.
+pub(crate) fn scan_bad(file: u8, refusal: ScanRefusal) -> LogBad
+    ensures { result ≡ of_scan file refusal }
+{
+    match refusal {
+        ScanRefusal::Fault => LogBad::Fault,
+        ScanRefusal::Damaged { place } => LogBad::at(file, place),
+        ScanRefusal::Memory => LogBad::Memory,
     }
 }
 
-impl From<NotRead> for JournalRefusal {
+impl From<LogBad> for JournalRefusal {
     ghost use Rattle.journal.specs.Refusals.{journal_refusal};
 
     ghost from_gives = { λ why refusal. refusal ≡ journal_refusal why };
 
-    fn from(why: NotRead) -> JournalRefusal {
+    fn from(why: LogBad) -> JournalRefusal {
         match why {
-            NotRead::Damaged { file, place } => JournalRefusal::Damaged { file, place },
-            NotRead::Fault => JournalRefusal::Fault,
-            NotRead::Memory => JournalRefusal::Memory,
+            LogBad::Damaged { file, place } => JournalRefusal::Damaged { file, place },
+            LogBad::Fault => JournalRefusal::Fault,
+            LogBad::Memory => JournalRefusal::Memory,
         }
     }
 }
@@ -106,22 +81,22 @@ impl From<LogRefusal> for JournalRefusal {
 
     ghost from_gives = { λ _ refusal. refusal ≡ Fault };
 
-    // A log that isn't down refuses by a fault alone.
+    // A log that is up refuses a reset only if the disk fails.
     fn from(_: LogRefusal) -> JournalRefusal {
         JournalRefusal::Fault
     }
 }
 
-impl From<NotRead> for MakeRefusal {
+impl From<LogBad> for MakeRefusal {
     ghost use Rattle.journal.specs.Refusals.{make_refusal};
 
     ghost from_gives = { λ why refusal. refusal ≡ make_refusal why };
 
-    fn from(why: NotRead) -> MakeRefusal {
+    fn from(why: LogBad) -> MakeRefusal {
         match why {
-            NotRead::Damaged { file, place } => MakeRefusal::Damaged { file, place },
-            NotRead::Fault => MakeRefusal::Fault,
-            NotRead::Memory => MakeRefusal::Memory,
+            LogBad::Damaged { file, place } => MakeRefusal::Damaged { file, place },
+            LogBad::Fault => MakeRefusal::Fault,
+            LogBad::Memory => MakeRefusal::Memory,
         }
     }
 }
@@ -151,7 +126,7 @@ impl From<LogRefusal> for MakeRefusal {
 
     ghost from_gives = { λ _ refusal. refusal ≡ Fault };
 
-    // An empty log that isn't down refuses a first root by a fault alone.
+    // An empty log that is up refuses a first root only if the disk fails.
     fn from(_: LogRefusal) -> MakeRefusal {
         MakeRefusal::Fault
     }

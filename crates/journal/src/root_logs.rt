@@ -1,20 +1,20 @@
-// The two root logs.
+//! The two root logs.
+
 ghost use Rattle.std.specs.Prelude.{◌≡◌, ◌<◌, ◌^◌, [], length, IfSome, IfOk, IfErr, MatchOption};
 ghost use Rattle.frame_log.specs.Calls.{Blames};
 ghost use Rattle.frame_log.specs.Frames.{framed};
-ghost use Rattle.frame_log.specs.Standing.{OnlyRead};
+ghost use Rattle.disk_model.specs.Stretches.{OnlyRead};
 ghost use Rattle.journal.specs.Refusing.{AreUnreadRoots};
 ghost use Rattle.journal.specs.RootReading.{AreRootLogs, FindsRoot};
-ghost use Rattle.journal.specs.declared.refusal.NotRead.TheVariants.{Fault};
+ghost use Rattle.journal_reading.specs.declared.unread.LogBad.TheVariants.{Fault};
 ghost use Rattle.journal_meaning.specs.Bodies.{AreRoots};
 ghost use Rattle.journal_reading.specs.Reading.{items_of};
 
 use crate::reading::{RootLog, read_roots};
-use crate::refusal::NotRead;
 use disk_model::Disk;
 use frame_log::Log;
 use journal_bodies::Root;
-use journal_reading::{gate_of, newest_root};
+use journal_reading::{LogBad, gate_of, newest_root};
 use std::alloc::Global;
 
 // The root logs.
@@ -25,10 +25,10 @@ pub(crate) struct RootLogs {
 }
 
 // Reads the root logs.
-pub(crate) fn read_root_logs<D: Disk>(alloc: Global, disk: &mut D) -> Result<RootLogs, NotRead>
-    ensures found { IfOk result (AreRootLogs D.seen D.may_leave disk.old disk.new) }
+pub(crate) fn read_root_logs<D: Disk>(alloc: Global, disk: &mut D) -> Result<RootLogs, LogBad>
+    ensures found { IfOk result (AreRootLogs D.Disk disk.old disk.new) }
     ensures refused { IfErr result (λ why. IfSome (D.seen disk.old) (λ image. AreUnreadRoots image why)) }
-    ensures read { OnlyRead D.seen D.may_leave D.moment D.left_since disk.old disk.new }
+    ensures read { OnlyRead D.Disk disk.old disk.new }
     ensures cause { Blames Fault (D.faults disk.old) (D.faults disk.new) result }
 {
     let first = read_roots(alloc, disk, 2)?;
@@ -36,7 +36,7 @@ pub(crate) fn read_root_logs<D: Disk>(alloc: Global, disk: &mut D) -> Result<Roo
     Ok(RootLogs { first, second })
 }
 
-// The logs to append roots to, and the newest root with its log and the gate of its frame.
+// The root logs, and the newest root with its log and the gate of its frame.
 #[derive(Drop)]
 pub(crate) struct NewestRoot {
     pub root_0: Log,

@@ -1,17 +1,18 @@
-// Syncing the logs.
+//! Syncing the logs.
+
 ghost use Rattle.std.specs.Prelude.{◌≡◌, ◌<◌, ℕ, IsSome, OnOk};
 ghost use Rattle.disk_model.specs.declared.disk.TheConstants.{LOG_COUNT};
 ghost use Rattle.disk_model.specs.Causes.{HasCause};
 ghost use Rattle.disk_model.specs.Logs.{Settled};
-ghost use Rattle.frame_log.specs.Standing.{OnlyRead};
+ghost use Rattle.disk_model.specs.Stretches.{OnlyRead};
 ghost use Rattle.journal.specs.Reading.{AreSettled};
 
 use disk_model::{Disk, Failed, LOG_COUNT};
 
-// Syncs each log, so that a crash leaves what a read gives.
+// Syncs each log. A crash then leaves what a read returns.
 pub(crate) fn sync_all<D: Disk>(disk: &mut D) -> Result<(), Failed>
     ensures settled { OnOk result (AreSettled LOG_COUNT (D.seen disk.new) (D.may_leave disk.new)) }
-    ensures read { IsSome (D.seen disk.old) → OnlyRead D.seen D.may_leave D.moment D.left_since disk.old disk.new }
+    ensures read { IsSome (D.seen disk.old) → OnlyRead D.Disk disk.old disk.new }
     ensures seen { D.seen disk.new ≡ D.seen disk.old }
     ensures cause { HasCause (D.faults disk.old) (D.faults disk.new) result }
 {
@@ -25,7 +26,7 @@ pub(crate) fn sync_all<D: Disk>(disk: &mut D) -> Result<(), Failed>
 pub(crate) fn settle<D: Disk>(disk: &mut D, file: u8) -> Result<(), Failed>
     requires { file < LOG_COUNT }
     ensures settled { OnOk result (Settled file (D.seen disk.new) (D.may_leave disk.new)) }
-    ensures read { IsSome (D.seen disk.old) → OnlyRead D.seen D.may_leave D.moment D.left_since disk.old disk.new }
+    ensures read { IsSome (D.seen disk.old) → OnlyRead D.Disk disk.old disk.new }
     ensures seen { D.seen disk.new ≡ D.seen disk.old }
     ensures cause { HasCause (D.faults disk.old) (D.faults disk.new) result }
 {

@@ -1,26 +1,26 @@
-// Cutting logs behind their last gates, and taking a journal's frames away.
+//! Truncating logs after their last gates, and resetting a journal.
+
 ghost use Rattle.std.specs.Prelude.{◌≡◌, ◌<◌, ◌≤◌, ◌+◌, ℕ, OnOk};
 ghost use Rattle.disk_model.specs.declared.disk.TheConstants.{LOG_COUNT};
 ghost use Rattle.disk_model.specs.Causes.{HasCause};
-ghost use Rattle.frame_log.specs.Standing.{IsTrimmed, IsUp};
+ghost use Rattle.frame_log.specs.LogStates.{IsTrimmed, IsUp};
 ghost use Rattle.journal.specs.Reading.{AreTrimmed, AreUpTo, KeepsFrames, KeepsTrimmed};
 ghost use Rattle.journal.specs.Reading.{LosesFirst, MakesReady, SameTurns};
-ghost use Rattle.journal.specs.Standing.{AreWithin, OnlyLog, log_of};
+ghost use Rattle.journal.specs.JournalStates.{AreWithin, OnlyLog, log_of};
 
 use crate::journal::Journal;
 use disk_model::{Disk, LOG_COUNT};
 use frame_log::LogRefusal;
 
 impl Journal {
-    // Cuts each log behind its last gate, and takes the first journal's frames away where that is asked.
+    // Truncates each log after its last gate, and resets the first journal if asked.
     pub(crate) fn make_ready<D: Disk>(
         &mut self,
         disk: &mut D,
         resets_first: bool,
     ) -> Result<(), LogRefusal>
         requires { AreWithin self.old (D.seen disk.old) }
-        ensures frames { MakesReady D.seen D.may_leave D.moment D.left_since self.old self.new disk.old disk.new
-            resets_first result }
+        ensures frames { MakesReady D.Disk self.old self.new disk.old disk.new resets_first result }
         ensures up { OnOk result (AreUpTo LOG_COUNT self.new) }
         ensures trimmed { OnOk result (AreTrimmed LOG_COUNT self.new (D.seen disk.new) (D.may_leave disk.new)) }
         ensures turns { SameTurns self.old self.new }
@@ -34,10 +34,10 @@ impl Journal {
         Ok(())
     }
 
-    // Cuts each log behind its last gate, and syncs it.
+    // Truncates each log after its last gate, and syncs it.
     pub(crate) fn trim_all<D: Disk>(&mut self, disk: &mut D) -> Result<(), LogRefusal>
         requires { AreWithin self.old (D.seen disk.old) }
-        ensures frames { KeepsFrames D.seen D.may_leave D.moment D.left_since self.old self.new disk.old disk.new }
+        ensures frames { KeepsFrames D.Disk self.old self.new disk.old disk.new }
         ensures up { OnOk result (AreUpTo LOG_COUNT self.new) }
         ensures trimmed { OnOk result (AreTrimmed LOG_COUNT self.new (D.seen disk.new) (D.may_leave disk.new)) }
         ensures turns { SameTurns self.old self.new }
@@ -50,11 +50,11 @@ impl Journal {
         Ok(())
     }
 
-    // Cuts the log of this number behind its last gate, and syncs it.
+    // Truncates the log of this number after its last gate, and syncs it.
     fn trim<D: Disk>(&mut self, file: u8, disk: &mut D) -> Result<(), LogRefusal>
         requires file { file < LOG_COUNT }
         requires within { AreWithin self.old (D.seen disk.old) }
-        ensures frames { KeepsFrames D.seen D.may_leave D.moment D.left_since self.old self.new disk.old disk.new }
+        ensures frames { KeepsFrames D.Disk self.old self.new disk.old disk.new }
         ensures up { OnOk result (IsUp (log_of self.new file)) }
         ensures trimmed { OnOk result (IsTrimmed (log_of self.new file) (D.seen disk.new) (D.may_leave disk.new)) }
         ensures rest { KeepsTrimmed file self.old self.new (D.seen disk.old) (D.seen disk.new)
@@ -71,12 +71,11 @@ impl Journal {
         }
     }
 
-    // Takes all frames of the first journal away.
+    // Removes all frames of the first journal.
     pub(crate) fn reset_first<D: Disk>(&mut self, disk: &mut D) -> Result<(), LogRefusal>
         requires within { AreWithin self.old (D.seen disk.old) }
         requires up { IsUp (log_of self.old 0) }
-        ensures frames { LosesFirst D.seen D.may_leave D.moment D.left_since
-            self.old self.new disk.old disk.new result }
+        ensures frames { LosesFirst D.Disk self.old self.new disk.old disk.new result }
         ensures up { OnOk result (IsUp (log_of self.new 0)) }
         ensures trimmed { OnOk result (AreTrimmed LOG_COUNT self.old (D.seen disk.old) (D.may_leave disk.old)
             → AreTrimmed LOG_COUNT self.new (D.seen disk.new) (D.may_leave disk.new)) }

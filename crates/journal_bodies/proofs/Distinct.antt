@@ -54,7 +54,7 @@ files_push next files n a h =
       distinct = distinct_push files n a.distinct (not-true (has files n) hs.1);
     }
 
--- a number of such files may stand behind those before it
+-- the number of such a file may follow those before it
 pub files_at : (next : ℕ) (front : List ℕ) (n : ℕ) (back : List ℕ) → AreFiles next (front ++ n ∷ back)
     → (nat_lt n next && not (has front n)) ≡ true
 files_at next front n back a =

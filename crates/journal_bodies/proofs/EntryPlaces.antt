@@ -3,23 +3,23 @@ use Rattle.std.proofs.Common.{◌≡◌, ℕ, List, [], ◌++◌, length, Result
 use Rattle.std.specs.Prelude.{IfOk}
 use Rattle.std.proofs.lemmas.List.{append-nil}
 use Rattle.doc_model.specs.declared.entry.Entry.{Entry}
-use Rattle.docs_format.specs.Answers.{Stops}
-use Rattle.docs_format.specs.declared.fault.Stop.{Stop}
+use Rattle.docs_format.specs.Answers.{Decodes, Stops}
+use Rattle.docs_format.specs.declared.fault.DecodeError.{DecodeError}
 use Rattle.docs_format.proofs.Digits.{IsBytes}
-use Rattle.journal_bodies.specs.Answers.{Answers, IsWithin, alone, entry_of}
+use Rattle.journal_bodies.specs.Answers.{IsWithin, alone, entry_of}
 use Rattle.journal_bodies.specs.Entries.{SpellsEntry}
 use Rattle.journal_bodies.specs.EntryReading.{entry_at}
 use Rattle.journal_bodies.specs.Laws.{EntriesAreRead, EntriesEndEarly}
-use Rattle.journal_bodies.specs.declared.fault.BodyBad.{BodyBad}
+use Rattle.docs_format.specs.declared.fault.DocBytesBad.{DocBytesBad}
 use Rattle.journal_bodies.proofs.EntryAgain.{entry_again, spelled_again}
 use Rattle.journal_bodies.proofs.EntryReads.{KeepsEntry, entry_reads, spell_entry}
 use Rattle.journal_bodies.proofs.Places.{ends_early, is_within, whole_again, whole_found}
 
-pub entry_within : (bytes : List ℕ) (why : Stop) → IsBytes bytes → Stops why (alone (entry_at bytes))
+pub entry_within : (bytes : List ℕ) (why : DecodeError) → IsBytes bytes → Stops why (alone (entry_at bytes))
     → IsWithin (length bytes) why
 entry_within bytes why fits e = is_within spell_entry KeepsEntry bytes (entry_at bytes) why (entry_reads bytes fits) e
 
-pub entry_found : (bytes : List ℕ) (r : Result (ℕ × Entry) BodyBad) → IsBytes bytes → Answers r (entry_of bytes)
+pub entry_found : (bytes : List ℕ) (r : Result (ℕ × Entry) DocBytesBad) → IsBytes bytes → Decodes r (entry_of bytes)
     → IfOk r (λ x. SpellsEntry bytes x.0 x.1)
 entry_found bytes (Err why) fits a = tt
 entry_found bytes (Ok x) fits a =

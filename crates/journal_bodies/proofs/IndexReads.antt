@@ -10,7 +10,7 @@ use Rattle.doc_model.specs.declared.indexes.Kind.{Kind}
 use Rattle.doc_model.specs.declared.indexes.Kind.TheVariants as kind
 use Rattle.docs_format.specs.Reading.{◌>>=◌, count_at, keeping, kind_at, list_at, text_at}
 use Rattle.docs_format.specs.Spelling.{count, text}
-use Rattle.docs_format.specs.declared.fault.Fault.TheVariants.{Misfit}
+use Rattle.docs_format.specs.declared.fault.FieldError.TheVariants.{Invalid}
 use Rattle.docs_format.proofs.Digits.{IsBytes}
 use Rattle.docs_format.proofs.Fields.{Takes, bind_ok, kept_ok, ok_is}
 use Rattle.docs_format.proofs.Lists.{list_counts, list_keeps}
@@ -44,7 +44,7 @@ index_push (j ∷ list) i d f =
     and_from (not (is_indexed (list ++ i ∷ []) j)) (no_index_twice (list ++ i ∷ [])) (ap not fresh)
     (index_push list i ds.1 fs.1)
 
--- pairs that stand once, whose names are texts
+-- distinct pairs, whose names are texts
 pub record ArePairs (list : List Index) : Type 0 where
   pub once : no_index_twice list ≡ true
   pub utf8 : list_all (λ i. is_utf8 i.0) list ≡ true
@@ -63,7 +63,7 @@ type_reads bytes fits =
   where
     chosen : (b : ℕ) (rest : List ℕ) (zero one : Bool) → (b == 0) ≡ zero → (b == 1) ≡ one → Takes bytes (b ∷ []) rest
         → Reads spell_kind (λ k. Unit {0}) bytes
-        (cond zero (Ok (kind.Decimal, rest)) (cond one (Ok (kind.Text, rest)) (Err (Misfit (length bytes)))))
+        (cond zero (Ok (kind.Decimal, rest)) (cond one (Ok (kind.Text, rest)) (Err (Invalid (length bytes)))))
     chosen b rest true one z o t = (subst (λ (k : ℕ). Takes bytes (k ∷ []) rest) (eqb-true b 0 z) t, tt)
     chosen b rest false true z o t = (subst (λ (k : ℕ). Takes bytes (k ∷ []) rest) (eqb-true b 1 o) t, tt)
     chosen b rest false false z o t = omega arith
@@ -130,7 +130,7 @@ indexes_kept n bytes list rest few e =
     and_from (nat_le (length list) 64) (no_index_twice list) (le-leb (length list) 64 (omega (arith, len, few)))
     (list_keeps index_at (λ l. no_index_twice l ≡ true) index_kept n [] bytes (list, rest) refl e)
 
--- a pair among others that stand once isn't among those before it
+-- one of distinct pairs isn't among those before it
 pub twice_at : (front : List Index) (i : Index) (back : List Index) → no_index_twice (front ++ i ∷ back) ≡ true
     → is_indexed front i ≡ false
 twice_at [] i back d = refl

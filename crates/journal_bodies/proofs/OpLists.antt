@@ -41,7 +41,7 @@ names_at (m ∷ front) name back d =
     let here = or_parts (bytes_eq m name) (is_among back m) parts.1 in
     rw (bytes_eq-sym name m, here.0, names_at front name back ds.1) refl
 
--- an operation that may stand behind others
+-- an operation that may follow others
 pub record MayFollow (before : List Op) (o : Op) : Type 0 where
   pub values : has_values o ≡ true
   pub expect : is_expect (expect_of o) ≡ true
@@ -49,7 +49,7 @@ pub record MayFollow (before : List Op) (o : Op) : Type 0 where
   pub fresh : is_among (map uri_of before) (uri_of o) ≡ false
   pub sizes : sum_by op_size before + op_size o ≤ 2 ^ 24
 
--- operations that may stand behind each other
+-- operations that may follow each other
 pub record AreRead (ops : List Op) : Type 0 where
   pub values : list_all has_values ops ≡ true
   pub expects : list_all (λ o. is_expect (expect_of o)) ops ≡ true

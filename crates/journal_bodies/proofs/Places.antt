@@ -3,18 +3,18 @@ use Rattle.std.proofs.Common.{◌≡◌, ℕ, ◌-◌, ◌<◌, ◌≤◌, ◌==
 use Rattle.std.proofs.Common.{refl, sym, ap, subst, ◌∙◌, append_assoc, arith}
 use Rattle.std.proofs.lemmas.Bool.{eqb-true}
 use Rattle.std.proofs.lemmas.List.{append-nil, length-append, nil_from_length}
-use Rattle.docs_format.specs.Answers.{Stops}
+use Rattle.docs_format.specs.Answers.{Decodes, Stops}
 use Rattle.docs_format.specs.Reading.{Read, left_of}
-use Rattle.docs_format.specs.declared.fault.Fault.{Fault}
-use Rattle.docs_format.specs.declared.fault.Fault.TheVariants.{Misfit}
-use Rattle.docs_format.specs.declared.fault.Stop.{Stop}
-use Rattle.docs_format.specs.declared.fault.Stop.TheVariants as stop
+use Rattle.docs_format.specs.declared.fault.FieldError.{FieldError}
+use Rattle.docs_format.specs.declared.fault.FieldError.TheVariants.{Invalid}
+use Rattle.docs_format.specs.declared.fault.DecodeError.{DecodeError}
+use Rattle.docs_format.specs.declared.fault.DecodeError.TheVariants as stop
 use Rattle.docs_format.proofs.Fields.{ok_is}
-use Rattle.journal_bodies.specs.Answers.{Answers, IsWithin, alone, placed}
-use Rattle.journal_bodies.specs.declared.fault.BodyBad.{BodyBad}
+use Rattle.journal_bodies.specs.Answers.{IsWithin, alone, placed}
+use Rattle.docs_format.specs.declared.fault.DocBytesBad.{DocBytesBad}
 use Rattle.journal_bodies.proofs.Steps.{Reads}
 
-pub unplaced : {X : Type 0} (len : ℕ) (r : Result X Fault) (x : X) → placed len r ≡ Ok x → r ≡ Ok x
+pub unplaced : {X : Type 0} (len : ℕ) (r : Result X FieldError) (x : X) → placed len r ≡ Ok x → r ≡ Ok x
 unplaced len (Ok y) x e = cc
 unplaced len (Err fault) x e = absurd cc
 
@@ -22,7 +22,7 @@ pub alone_ok : {X : Type 0} (read : Read X) (x : X) → alone read ≡ Ok x → 
 alone_ok {X = X} (Err fault) x e = absurd cc
 alone_ok {X = X} (Ok y) x e = go (length y.1 == 0) refl e
   where
-    go : (b : Bool) → (length y.1 == 0) ≡ b → cond b (Ok y.0) (Err (Misfit (length y.1))) ≡ Ok x
+    go : (b : Bool) → (length y.1 == 0) ≡ b → cond b (Ok y.0) (Err (Invalid (length y.1))) ≡ Ok x
         → (let r : Read X = Ok y in r) ≡ Ok (x, [])
     go true z f =
         let none : y.1 ≡ [] = nil_from_length y.1 (eqb-true (length y.1) 0 z) in
@@ -31,20 +31,20 @@ alone_ok {X = X} (Ok y) x e = go (length y.1 == 0) refl e
     go false z f = absurd cc
 
 -- the bytes left from a fault on are among those that there are
-pub is_within : {X : Type 0} (spell : X → List ℕ) (P : X → Type 0) (bytes : List ℕ) (read : Read X) (why : Stop)
+pub is_within : {X : Type 0} (spell : X → List ℕ) (P : X → Type 0) (bytes : List ℕ) (read : Read X) (why : DecodeError)
     → Reads spell P bytes read → Stops why (alone read) → IsWithin (length bytes) why
 is_within spell P bytes read stop.Memory r e = tt
 is_within spell P bytes (Err fault) (stop.Bad other) r e =
-    let same : fault ≡ other = cc in subst (λ (f : Fault). left_of f ≤ length bytes) same r
+    let same : fault ≡ other = cc in subst (λ (f : FieldError). left_of f ≤ length bytes) same r
 is_within {X = X} spell P bytes (Ok x) (stop.Bad fault) r e = go (length x.1 == 0) e
   where
     len : length x.1 ≤ length bytes
     len = omega (arith, length-append (spell x.0) x.1, ap length r.0.parts)
 
-    go : (b : Bool) → (let s : Result X Fault = cond b (Ok x.0) (Err (Misfit (length x.1))) in s) ≡ Err fault
+    go : (b : Bool) → (let s : Result X FieldError = cond b (Ok x.0) (Err (Invalid (length x.1))) in s) ≡ Err fault
         → left_of fault ≤ length bytes
     go true f = absurd cc
-    go false f = let same : Misfit (length x.1) ≡ fault = cc in subst (λ (g : Fault). left_of g ≤ length bytes) same len
+    go false f = let same : Invalid (length x.1) ≡ fault = cc in subst (λ (g : FieldError). left_of g ≤ length bytes) same len
 
 -- a value that was read whole is spelled by the bytes
 pub whole_found : {X : Type 0} (spell : X → List ℕ) (P : X → Type 0) (bytes : List ℕ) (read : Read X) (x : X)
@@ -57,9 +57,9 @@ whole_found spell P bytes read x r e =
 pub whole_again : {X : Type 0} (len : ℕ) (read : Read X) (x : X) → read ≡ Ok (x, []) → placed len (alone read) ≡ Ok x
 whole_again len read x e = rw e refl
 
-pub is_only : {X : Type 0} (r : Result X BodyBad) (read : Result X ℕ) (x : X) → read ≡ Ok x → Answers r read
-    → Answers r (Ok x)
-is_only {X = X} r read x e a = subst (λ (s : Result X ℕ). Answers r s) e a
+pub is_only : {X : Type 0} (r : Result X DocBytesBad) (read : Result X ℕ) (x : X) → read ≡ Ok x → Decodes r read
+    → Decodes r (Ok x)
+is_only {X = X} r read x e a = subst (λ (s : Result X ℕ). Decodes r s) e a
 
 -- bytes that end early are no body
 pub ends_early : {X : Type 0} (read_at : List ℕ → Read X) (spell : X → List ℕ) (P : X → Type 0)

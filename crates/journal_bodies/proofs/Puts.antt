@@ -8,9 +8,9 @@ use Rattle.doc_model.specs.Tree.{is_among}
 use Rattle.doc_model.specs.declared.op.Op.{Op}
 use Rattle.docs_format.specs.Answers.{Stops}
 use Rattle.docs_format.specs.Reading.{◌>>=◌, Read, collections_at, document_at, keeping, node_at, sized_document_at, uri_at}
-use Rattle.docs_format.specs.declared.fault.Fault.TheVariants.{Misfit}
-use Rattle.docs_format.specs.declared.fault.Stop.{Stop}
-use Rattle.docs_format.specs.declared.fault.Stop.TheVariants as stop
+use Rattle.docs_format.specs.declared.fault.FieldError.TheVariants.{Invalid}
+use Rattle.docs_format.specs.declared.fault.DecodeError.{DecodeError}
+use Rattle.docs_format.specs.declared.fault.DecodeError.TheVariants as stop
 use Rattle.docs_format.proofs.Fields.{bind_ok, kept_ok, ok_is}
 use Rattle.docs_format.proofs.Keeping.{kept, unkept}
 use Rattle.journal_bodies.specs.EntryReading.{fresh_at, put_at}
@@ -40,14 +40,14 @@ module _ (before : List Op) (bytes : List ℕ) (uri : List ℕ × List ℕ)
   unfolding put_at
   put_is = rw fresh refl
 
-  pub put_stops : (why : Stop) → Stops why (sized_document_at bytes) → Stops why (put_at before bytes)
+  pub put_stops : (why : DecodeError) → Stops why (sized_document_at bytes) → Stops why (put_at before bytes)
   unfolding sized_document_at
   put_stops stop.Memory s = tt
   put_stops (stop.Bad fault) s = put_is ∙ go (document_at bytes) s
     where
       judged : (x : PlainDocument × List ℕ) (b : Bool) → alone_small x.0 ≡ b
-          → (let r : Read PlainDocument = cond b (Ok x) (Err (Misfit (length bytes))) in r) ≡ Err fault
-          → (let r : Read PlainDocument = cond (small before x.0) (Ok x) (Err (Misfit (length bytes))) in r) ≡ Err fault
+          → (let r : Read PlainDocument = cond b (Ok x) (Err (Invalid (length bytes))) in r) ≡ Err fault
+          → (let r : Read PlainDocument = cond (small before x.0) (Ok x) (Err (Invalid (length bytes))) in r) ≡ Err fault
       judged x true a e = absurd cc
       judged x false a e =
           let large : 2 ^ 24 < document_size x.0 =
@@ -57,8 +57,8 @@ module _ (before : List Op) (bytes : List ℕ) (uri : List ℕ × List ℕ)
           rw over e
 
       go : (read : Read PlainDocument)
-          → (read >>= λ x. cond (alone_small x.0) (Ok x) (Err (Misfit (length bytes)))) ≡ Err fault
-          → (read >>= λ x. cond (small before x.0) (Ok x) (Err (Misfit (length bytes)))) ≡ Err fault
+          → (read >>= λ x. cond (alone_small x.0) (Ok x) (Err (Invalid (length bytes)))) ≡ Err fault
+          → (read >>= λ x. cond (small before x.0) (Ok x) (Err (Invalid (length bytes)))) ≡ Err fault
       go (Ok x) e = judged x (alone_small x.0) refl e
       go (Err f) e = e
 
@@ -74,7 +74,7 @@ module _ (before : List Op) (bytes : List ℕ) (uri : List ℕ × List ℕ)
         (le-leb (sum_by op_size before + document_size d.0) (2 ^ 24) (omega (arith, total, left)))
 
     pub put_large : (room : ℕ) → room + sum_by op_size before ≡ 2 ^ 24 → room < document_size d.0
-        → put_at before bytes ≡ Err (Misfit (length bytes))
+        → put_at before bytes ≡ Err (Invalid (length bytes))
     put_large room total less =
         put_is ∙ unkept (small before) document_at bytes d is_read
         (lt-leb (sum_by op_size before + document_size d.0) (2 ^ 24) (omega (arith, total, less)))

@@ -129,7 +129,7 @@ settings_again r rest k h =
 
 -- ---- files
 
--- a file that may stand behind others
+-- a file that may follow others
 abbrev IsFile : ℕ → List ℕ → ℕ → Type 0
 IsFile next before n = (nat_lt n next && not (has before n)) ≡ true
 

@@ -2,23 +2,23 @@
 use Rattle.std.proofs.Common.{◌≡◌, ℕ, List, [], ◌++◌, length, Result, Ok, Err, sym, ap, ◌∙◌}
 use Rattle.std.specs.Prelude.{IfOk}
 use Rattle.std.proofs.lemmas.List.{append-nil}
-use Rattle.docs_format.specs.Answers.{Stops}
-use Rattle.docs_format.specs.declared.fault.Stop.{Stop}
+use Rattle.docs_format.specs.Answers.{Decodes, Stops}
+use Rattle.docs_format.specs.declared.fault.DecodeError.{DecodeError}
 use Rattle.docs_format.proofs.Digits.{IsBytes}
-use Rattle.journal_bodies.specs.Answers.{Answers, IsWithin, alone, root_of}
+use Rattle.journal_bodies.specs.Answers.{IsWithin, alone, root_of}
 use Rattle.journal_bodies.specs.Laws.{RootsAreRead, RootsEndEarly}
 use Rattle.journal_bodies.specs.RootReading.{root_at}
 use Rattle.journal_bodies.specs.Roots.{PlainRoot, SpellsRoot, root}
-use Rattle.journal_bodies.specs.declared.fault.BodyBad.{BodyBad}
+use Rattle.docs_format.specs.declared.fault.DocBytesBad.{DocBytesBad}
 use Rattle.journal_bodies.proofs.Places.{ends_early, is_within, whole_again, whole_found}
 use Rattle.journal_bodies.proofs.RootAgain.{root_again, spelled_again}
 use Rattle.journal_bodies.proofs.RootReads.{KeepsRoot, root_reads}
 
-pub root_within : (bytes : List ℕ) (why : Stop) → IsBytes bytes → Stops why (alone (root_at bytes))
+pub root_within : (bytes : List ℕ) (why : DecodeError) → IsBytes bytes → Stops why (alone (root_at bytes))
     → IsWithin (length bytes) why
 root_within bytes why fits e = is_within root KeepsRoot bytes (root_at bytes) why (root_reads bytes fits) e
 
-pub root_found : (bytes : List ℕ) (r : Result PlainRoot BodyBad) → IsBytes bytes → Answers r (root_of bytes)
+pub root_found : (bytes : List ℕ) (r : Result PlainRoot DocBytesBad) → IsBytes bytes → Decodes r (root_of bytes)
     → IfOk r (λ x. SpellsRoot bytes x)
 root_found bytes (Err why) fits a = tt
 root_found bytes (Ok x) fits a =

@@ -7,7 +7,7 @@ use Rattle.std.proofs.lemmas.Grind.{flat_map-append}
 use Rattle.std.proofs.lemmas.List.{append-nil, length-append, length-take, length_push}
 use Rattle.docs_format.specs.Reading.{◌>>=◌, Read, bytes_at, count_at, keeping, kind_at, left_of, list_at, text_at, wide_at}
 use Rattle.docs_format.specs.Spelling.{count, text}
-use Rattle.docs_format.specs.declared.fault.Fault.TheVariants.{Early, Misfit}
+use Rattle.docs_format.specs.declared.fault.FieldError.TheVariants.{Truncated, Invalid}
 use Rattle.docs_format.proofs.Digits.{IsBytes}
 use Rattle.docs_format.proofs.Fields.{Takes, Takes-then, bind_ok, count_takes, guard_ok, kept_ok, text_takes, wide_takes}
 use Rattle.docs_format.proofs.Forward.{Within, count_forward, text_forward, wide_forward}
@@ -59,13 +59,13 @@ pub keeping_reads : {X : Type 0} (spell : X → List ℕ) (P : X → Type 0) (ru
 keeping_reads {X = X} spell P rule field_at bytes r = go (field_at bytes) r
   where
     judged : (x : X × List ℕ) (b : Bool) → rule x.0 ≡ b → Takes bytes (spell x.0) x.1 → P x.0
-        → Reads spell (λ y. P y × (rule y ≡ true)) bytes (cond b (Ok x) (Err (Misfit (length bytes))))
+        → Reads spell (λ y. P y × (rule y ≡ true)) bytes (cond b (Ok x) (Err (Invalid (length bytes))))
     judged x true e t p = (t, (p, e))
     judged x false e t p = omega arith
 
     go : (read : Read X) → Reads spell P bytes read
         → Reads spell (λ x. P x × (rule x ≡ true)) bytes
-        (read >>= λ x. cond (rule x.0) (Ok x) (Err (Misfit (length bytes))))
+        (read >>= λ x. cond (rule x.0) (Ok x) (Err (Invalid (length bytes))))
     go (Ok x) r = judged x (rule x.0) refl r.0 r.1
     go (Err fault) r = r
 
@@ -88,7 +88,7 @@ unfolding text_at bytes_at
 text_short bytes x fits e =
     let k = kept_ok is_utf8 bytes_at bytes x e in
     let a = bind_ok (count_at bytes) _ x k.0 in
-    let g = guard_ok (nat_lt (length a.0.1) a.0.0) (Early (length bytes)) (take a.0.0 a.0.1, drop a.0.0 a.0.1) x a.2 in
+    let g = guard_ok (nat_lt (length a.0.1) a.0.0) (Truncated (length bytes)) (take a.0.0 a.0.1, drop a.0.0 a.0.1) x a.2 in
     let short : length (take a.0.0 a.0.1) ≤ a.0.0 = omega (arith, length-take a.0.0 a.0.1) in
     subst (λ (y : List ℕ × List ℕ). length y.0 < 2 ^ 32) g.1 (omega (arith, short, (count_takes bytes a.0 fits a.1).1))
 

@@ -12,7 +12,7 @@ use Rattle.doc_model.specs.declared.op.Op.TheVariants.{Put, Remove}
 use Rattle.docs_format.specs.Spelling.{are_values, document, text}
 use Rattle.journal_bodies.specs.Roots.{listed, long}
 
--- what an operation expects: a byte that says whether it does, and the timestamp
+-- what an operation expects: a byte that says whether it expects a timestamp, and the timestamp
 abbrev pub expect : Option ℕ → List ℕ
 expect None = 0 ∷ []
 expect (Some stamp) = 1 ∷ long stamp
@@ -22,7 +22,7 @@ abbrev pub op : Op → List ℕ
 op (Put d e) = 1 ∷ expect e ++ document d
 op (Remove uri e) = 2 ∷ expect e ++ text uri
 
--- an entry: a byte for its kind, its number, and its operations or the timestamp that it forgets up to
+-- an entry: a byte for its kind, its number, and its operations or the timestamp to which it forgets
 abbrev pub entry : ℕ → Entry → List ℕ
 entry number (Commit ops) = 1 ∷ long number ++ listed op ops
 entry number (Forget stamp) = 2 ∷ long number ++ long stamp
@@ -32,7 +32,7 @@ abbrev pub is_expect : Option ℕ → Bool
 is_expect None = true
 is_expect (Some stamp) = nat_lt stamp (2 ^ 48)
 
--- a commit names no URI twice and expects timestamps below 2^48; a forget is of a timestamp below its own
+-- a commit names no URI twice and expects timestamps below 2^48; a forget is to a timestamp below its own
 abbrev pub IsEntry : ℕ → Entry → Type 0
 IsEntry number (Commit ops) = IsTrue (is_distinct (map uri_of ops) && list_all (λ o. is_expect (expect_of o)) ops)
 IsEntry number (Forget stamp) = stamp < number

@@ -1,4 +1,4 @@
--- Reading an entry from left to right, as far as the first field that doesn't fit.
+-- Reading an entry from left to right, up to the first invalid field.
 use Rattle.std.specs.Prelude.{ℕ, ◌+◌, ◌^◌, ◌&&◌, ◌||◌, not, nat_lt, nat_le, ◌==◌, List, [], map, sum_by}
 use Rattle.std.specs.Prelude.{Option, Some, None, Ok, if◌then◌else◌}
 use Rattle.doc_model.specs.Documents.{PlainDocument, document_size}
@@ -18,17 +18,17 @@ expect_at bytes = do
   if given.0 == 0 then Ok (None, given.1)
       else (keeping (λ stamp. nat_lt stamp (2 ^ 48)) long_at given.1 >>= λ stamp. Ok (Some stamp.0, stamp.1))
 
--- a URI that isn't among some others
+-- a URI that isn't among these
 unfoldable pub fresh_at : List (List ℕ) → List ℕ → Read (List ℕ)
 fresh_at others = keeping (λ uri. not (is_among others uri)) uri_at
 
--- a document behind some operations: its URI is none of theirs, and its size not too much together with theirs
+-- a document after some operations: its URI is none of theirs, and the sum of its size and theirs isn't too great
 unfoldable pub put_at : List Op → List ℕ → Read PlainDocument
 put_at before bytes = do
   uri ← fresh_at (map uri_of before) bytes
   keeping (λ d. nat_le (sum_by op_size before + document_size d) (2 ^ 24)) document_at bytes
 
--- an operation behind others
+-- an operation after others
 unfoldable pub op_at : List Op → List ℕ → Read Op
 op_at before bytes = do
   kind ← keeping (λ byte. (byte == 1) || (byte == 2)) kind_at bytes
@@ -41,7 +41,7 @@ ops_at bytes = do
   n ← keeping (λ n. nat_le 1 n && nat_le n 1000) count_at bytes
   list_at op_at [] n.0 n.1
 
--- what a commit or a forget says behind its number
+-- what follows the number of a commit or a forget
 unfoldable pub said_at : ℕ → ℕ → List ℕ → Read Entry
 said_at kind number bytes =
     if kind == 1 then (ops_at bytes >>= λ ops. Ok (Commit ops.0, ops.1))

@@ -5,26 +5,26 @@ use Rattle.journal_bodies.specs.Answers.{entry_of, root_of}
 use Rattle.journal_bodies.specs.Entries.{SpellsEntry}
 use Rattle.journal_bodies.specs.Roots.{PlainRoot, SpellsRoot}
 
--- each number is that of a byte
+-- each number is a byte
 abbrev pub AreBytes : List ℕ → Type 0
 AreBytes bytes = (i : ℕ) → get_or bytes i 0 < 256
 
--- the bytes of an entry are read as it
+-- the bytes of an entry are decoded to it
 abbrev pub EntriesAreRead : Type 0
 EntriesAreRead = (bytes : List ℕ) (number : ℕ) (e : Entry) → SpellsEntry bytes number e → entry_of bytes ≡ Ok (number, e)
 
--- the bytes of a root are read as it
+-- the bytes of a root are decoded to it
 abbrev pub RootsAreRead : Type 0
 RootsAreRead = (bytes : List ℕ) (r : PlainRoot) → SpellsRoot bytes r → root_of bytes ≡ Ok r
 
--- the bytes of an entry that end early are refused at one of them or at their end
+-- the bytes of an entry that end early are invalid at one of them or at their end
 abbrev pub EntriesEndEarly : Type 0
 EntriesEndEarly =
     (bytes more : List ℕ) (number : ℕ) (e : Entry)
     → AreBytes bytes → SpellsEntry (bytes ++ more) number e → 0 < length more
     → (place : ℕ) × (entry_of bytes ≡ Err place) × (place ≤ length bytes)
 
--- the bytes of a root that end early are refused at one of them or at their end
+-- the bytes of a root that end early are invalid at one of them or at their end
 abbrev pub RootsEndEarly : Type 0
 RootsEndEarly =
     (bytes more : List ℕ) (r : PlainRoot) → AreBytes bytes → SpellsRoot (bytes ++ more) r → 0 < length more

@@ -1,4 +1,4 @@
--- Reading a root from left to right, as far as the first field that doesn't fit.
+-- Reading a root from left to right, up to the first invalid field.
 use Rattle.std.specs.Prelude.{ℕ, ◌&&◌, not, nat_lt, nat_le, ◌==◌, List, [], ◌∷◌, ◌++◌, length, Ok, Err}
 use Rattle.std.specs.Prelude.{if◌then◌else◌}
 use Rattle.std.specs.List.{flat_map}
@@ -7,7 +7,7 @@ use Rattle.doc_model.specs.declared.indexes.Kind.{Kind}
 use Rattle.doc_model.specs.declared.indexes.Kind.TheVariants as kind
 use Rattle.doc_model.specs.declared.settings.Settings.{Settings}
 use Rattle.docs_format.specs.Reading.{◌>>=◌, Read, count_at, keeping, kind_at, list_at, text_at, wide_at}
-use Rattle.docs_format.specs.declared.fault.Fault.TheVariants.{Misfit}
+use Rattle.docs_format.specs.declared.fault.FieldError.TheVariants.{Invalid}
 use Rattle.journal_bodies.specs.Roots.{PlainRoot, files_of, has}
 use Rattle.journal_bodies.specs.declared.root.PartFiles.{PartFiles}
 use Rattle.journal_bodies.specs.declared.root_reading.RootNumbers.{RootNumbers}
@@ -16,7 +16,7 @@ use Rattle.journal_bodies.specs.declared.root_reading.RootNumbers.{RootNumbers}
 unfoldable pub long_at : List ℕ → Read ℕ
 long_at = wide_at 8
 
--- the numbers at the front of a root
+-- the numbers that a root begins with
 unfoldable pub numbers_at : List ℕ → Read RootNumbers
 numbers_at bytes = do
   number ← keeping (λ n. nat_le 1 n) long_at bytes
@@ -41,9 +41,9 @@ type_at bytes = do
   byte ← kind_at bytes
   if byte.0 == 0 then Ok (kind.Decimal, byte.1)
       else if byte.0 == 1 then Ok (kind.Text, byte.1)
-      else Err (Misfit (length bytes))
+      else Err (Invalid (length bytes))
 
--- an index behind others; of one that stands twice the kind doesn't fit
+-- a range index after others; one that is among them is invalid at its kind
 unfoldable pub index_at : List Index → List ℕ → Read Index
 index_at before bytes = do
   name ← text_at bytes
@@ -62,11 +62,11 @@ settings_at bytes = do
   indexes ← indexes_at merge.1
   Ok (record { indexes = indexes.0; save_at = save.0; merge_at = merge.0 }, indexes.1)
 
--- the number of a file: it is below the next one, and not among those before it
+-- the number of a file, which is below the next number and not among those before it
 unfoldable pub file_at : ℕ → List ℕ → List ℕ → Read ℕ
 file_at next before = keeping (λ n. nat_lt n next && not (has before n)) long_at
 
--- a part behind others
+-- a part after others
 unfoldable pub part_at : ℕ → List PartFiles → List ℕ → Read PartFiles
 part_at next before bytes = do
   index ← file_at next (flat_map files_of before) bytes
@@ -80,7 +80,7 @@ parts_at next bytes = do
   n ← count_at bytes
   list_at (part_at next) [] n.0 n.1
 
--- the files to be removed, which are none of some others
+-- the files to be removed, which are none of the others
 unfoldable pub removed_at : ℕ → List ℕ → List ℕ → Read (List ℕ)
 removed_at next others bytes = do
   n ← count_at bytes

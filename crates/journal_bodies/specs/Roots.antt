@@ -15,7 +15,7 @@ use Rattle.journal_bodies.specs.declared.root.Root.{Root}
 abbrev pub PlainRoot : Type 0
 PlainRoot = Root
 
--- a number in eight bytes, the highest first
+-- a number in eight bytes, big-endian
 unfoldable pub long : ℕ → List ℕ
 long n = big_bytes 8 n
 
@@ -52,15 +52,15 @@ root r = 3 ∷ numbers r ++ settings r.settings ++ listed part r.parts ++ listed
 abbrev pub files_of : PartFiles → List ℕ
 files_of p = p.index ∷ p.documents ∷ p.stamps ∷ []
 
--- the files that a root names, those of its parts before those to be removed
+-- the files that a root names: those of its parts, then those to be removed
 abbrev pub files : PlainRoot → List ℕ
 files r = flat_map files_of r.parts ++ r.removed
 
--- the number stands in the list
+-- the number is in the list
 abbrev pub has : List ℕ → ℕ → Bool
 has list n = list_any (λ m. n == m) list
 
--- no number stands twice
+-- no number is in the list twice
 abbrev pub is_distinct : List ℕ → Bool
 is_distinct [] = true
 is_distinct (n ∷ list) = not (has list n) && is_distinct list
@@ -76,7 +76,7 @@ pub record IsRoot (r : PlainRoot) : Type 0 where
   pub parts : length r.parts < 2 ^ 32
   pub removed : length r.removed < 2 ^ 32
 
--- the numbers at the front of a root fit their eight bytes
+-- the numbers that a root begins with fit their eight bytes
 pub record AreInRange (r : PlainRoot) : Type 0 where
   pub number : r.number < 2 ^ 64
   pub checkpoint : r.checkpoint < 2 ^ 64

@@ -1,7 +1,7 @@
 ghost use Rattle.std.specs.Prelude.{◌≡◌, length, ℕ, IfErr, IfOk, Ok};
 ghost use Rattle.doc_model.specs.declared.entry.Entry as model;
-ghost use Rattle.docs_format.specs.Answers.{Gives};
-ghost use Rattle.journal_bodies.specs.Answers.{Answers, IsPlaced, alone, entry_of};
+ghost use Rattle.docs_format.specs.Answers.{Decodes, Gives, IsPlaced};
+ghost use Rattle.journal_bodies.specs.Answers.{alone, entry_of};
 ghost use Rattle.journal_bodies.specs.Entries.{SpellsEntry};
 ghost use Rattle.journal_bodies.specs.EntryReading.{entry_at, said_at};
 
@@ -9,24 +9,25 @@ use crate::fault::{BodyBad, body_bad};
 use crate::kinds::COMMIT;
 use crate::ops::{below, one_or_two, ops_at};
 use doc_model::Entry;
-use docs_format::{Fault, Reader, Stop};
+use docs_format::{DecodeError, FieldError, Reader};
 use std::alloc::Global;
 
-/// The number and the entry that bytes spell, all of the bytes.
+/// Decodes an entry and its number, which take all of the bytes.
 ///
-/// It takes time n log n. It copies each text once, and takes no more memory than the bytes that are there call for.
+/// Takes time n log n. Copies each text once, and allocates in proportion to the bytes that are there, not to the
+/// counts that they claim.
 pub fn read_entry(alloc: Global, bytes: &[u8]) -> Result<(u64, Entry), BodyBad>
     ensures found { IfOk result (λ x. SpellsEntry bytes.now x.0 x.1) }
-    ensures only { (number : ℕ) (e : model.Entry) → SpellsEntry bytes.now number e → Answers result (Ok (number, e)) }
-    ensures exact { Answers result (entry_of bytes.now) }
+    ensures only { (number : ℕ) (e : model.Entry) → SpellsEntry bytes.now number e → Decodes result (Ok (number, e)) }
+    ensures exact { Decodes result (entry_of bytes.now) }
     ensures within { IfErr result (IsPlaced (length bytes.now)) }
 {
     placed(alloc, bytes)
 }
 
-/// The number and the entry, or the place of the fault.
+/// Decodes an entry, or returns the place of the first invalid field.
 fn placed(alloc: Global, bytes: &[u8]) -> Result<(u64, Entry), BodyBad>
-    ensures { Answers result (entry_of bytes.now) }
+    ensures { Decodes result (entry_of bytes.now) }
 {
     match whole(alloc, bytes) {
         Ok(entry) => Ok(entry),
@@ -34,19 +35,19 @@ fn placed(alloc: Global, bytes: &[u8]) -> Result<(u64, Entry), BodyBad>
     }
 }
 
-fn whole(alloc: Global, bytes: &[u8]) -> Result<(u64, Entry), Stop>
+fn whole(alloc: Global, bytes: &[u8]) -> Result<(u64, Entry), DecodeError>
     ensures { Gives (λ x. x) result (alone (entry_at bytes.now)) }
 {
     let mut reader = Reader::new(bytes);
     let entry = entry_at(alloc, &mut reader)?;
     if reader.left() > 0 {
-        return Err(Stop::Bad(Fault::Misfit(reader.left())));
+        return Err(DecodeError::Bad(FieldError::Invalid(reader.left())));
     }
     Ok(entry)
 }
 
 #[tactic(auto, unfolding(crate::specs::EntryReading::entry_at, crate::specs::RootReading::long_at))]
-fn entry_at(alloc: Global, reader: &mut Reader) -> Result<(u64, Entry), Stop>
+fn entry_at(alloc: Global, reader: &mut Reader) -> Result<(u64, Entry), DecodeError>
     ensures { Gives (λ x. (x, reader.new)) result (entry_at reader.old) }
 {
     let kind = one_or_two(reader)?;
@@ -55,9 +56,9 @@ fn entry_at(alloc: Global, reader: &mut Reader) -> Result<(u64, Entry), Stop>
     Ok((number, said))
 }
 
-/// What a commit or a forget says behind its number.
+/// Reads what follows the number of a commit or a forget.
 #[tactic(auto, unfolding(crate::specs::EntryReading::said_at))]
-fn said_at(alloc: Global, kind: u8, number: u64, reader: &mut Reader) -> Result<Entry, Stop>
+fn said_at(alloc: Global, kind: u8, number: u64, reader: &mut Reader) -> Result<Entry, DecodeError>
     ensures { Gives (λ x. (x, reader.new)) result (said_at kind number reader.old) }
 {
     if kind == COMMIT {

@@ -10,7 +10,7 @@ use doc_model::{Entry, Op, Ops};
 use docs_format::{put_count, put_document, put_kind, put_long, put_text};
 use std::alloc::{AllocError, Global};
 
-/// The one spelling of an entry under its number.
+/// Encodes an entry under its number. Each entry has one spelling.
 pub fn entry_body(alloc: Global, number: u64, entry: &Entry) -> Result<Vec<u8>, AllocError>
     requires { IsEntry number entry.now }
     ensures { IfOk result (λ bytes. SpellsEntry bytes.items number entry.now) }
@@ -20,8 +20,8 @@ pub fn entry_body(alloc: Global, number: u64, entry: &Entry) -> Result<Vec<u8>, 
     Ok(out)
 }
 
-/// The bytes of a commit under its number; its one spelling, where it names no URI twice and expects timestamps below
-/// 2^48.
+/// Encodes a commit under its number. A commit that names a URI twice, or expects a timestamp of 2^48 or more, isn't
+/// decoded again.
 pub fn commit_body(alloc: Global, number: u64, ops: &Ops) -> Result<Vec<u8>, AllocError>
     ensures written { IfOk result (λ bytes. bytes.items ≡ entry number (entry_kind.Commit ops.now)) }
     ensures values { IfOk result (λ _. HasValues (entry_kind.Commit ops.now)) }
@@ -33,7 +33,7 @@ pub fn commit_body(alloc: Global, number: u64, ops: &Ops) -> Result<Vec<u8>, All
     Ok(out)
 }
 
-// About as many bytes as operations take: a node of a document takes one, and a text or a count five more.
+// About how many bytes operations take. A node of a document takes one byte, and a text or a count five more.
 fn room_of(list: &[Op]) -> usize {
     let mut room: usize = 64;
     for op in list {

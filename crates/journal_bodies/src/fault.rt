@@ -1,28 +1,23 @@
-//! Why bytes are no body.
+//! Why a body wasn't decoded.
 
 ghost use Rattle.std.specs.Prelude.{◌≤◌};
 ghost use Rattle.journal_bodies.specs.Answers.{IsWithin, TellsStop};
 
-use docs_format::Stop;
+use docs_format::{DecodeError, DocBytesBad};
 
-/// Why bytes weren't read: they are no body, or want of memory.
-#[derive(Clone, Copy, Debug, PartialEq, Eq)]
-pub enum BodyBad {
-    /// The first byte of the first field that doesn't fit or that the bytes end inside of, or the first byte behind
-    /// the last field.
-    Bad { place: u64 },
-    Memory,
-}
+/// Why a body wasn't decoded. The place is that of the first truncated or invalid field, or of the first byte after the
+/// last field.
+pub type BodyBad = DocBytesBad;
 
-/// What a stop in so many bytes says to the caller.
-pub fn body_bad(len: usize, stop: Stop) -> BodyBad
+/// The error of a body of `len` bytes.
+pub fn body_bad(len: usize, stop: DecodeError) -> BodyBad
     requires { IsWithin len stop }
     ensures { TellsStop len stop result }
 {
     match stop {
-        Stop::Memory => BodyBad::Memory,
-        Stop::Bad(fault) => BodyBad::Bad {
-            place: (len - fault.left()) as u64,
+        DecodeError::Memory => BodyBad::Memory,
+        DecodeError::Bad(field) => BodyBad::Bad {
+            place: (len - field.left()) as u64,
         },
     }
 }

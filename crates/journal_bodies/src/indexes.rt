@@ -4,13 +4,13 @@ ghost use Rattle.docs_format.specs.Answers.{Gives};
 ghost use Rattle.journal_bodies.specs.RootReading.{index_at, indexes_at, settings_at, type_at};
 
 use doc_model::{Indexes, Kind, Settings, Text};
-use docs_format::{Fault, Reader, Stop};
+use docs_format::{DecodeError, FieldError, Reader};
 use std::alloc::Global;
 
-const MOST_INDEXES: u32 = 64;
+const MAX_INDEXES: u32 = doc_model::MAX_INDEXES as u32;
 
 #[tactic(auto, unfolding(crate::specs::RootReading::settings_at))]
-pub fn settings_at(alloc: Global, reader: &mut Reader) -> Result<Settings, Stop>
+pub fn settings_at(alloc: Global, reader: &mut Reader) -> Result<Settings, DecodeError>
     ensures { Gives (λ x. (x, reader.new)) result (settings_at reader.old) }
 {
     let save_at = reader.count()?;
@@ -24,13 +24,13 @@ pub fn settings_at(alloc: Global, reader: &mut Reader) -> Result<Settings, Stop>
 }
 
 #[tactic(auto, unfolding(crate::specs::RootReading::indexes_at))]
-fn indexes_at(alloc: Global, reader: &mut Reader) -> Result<Indexes, Stop>
+fn indexes_at(alloc: Global, reader: &mut Reader) -> Result<Indexes, DecodeError>
     ensures { Gives (λ x. (x, reader.new)) result (indexes_at reader.old) }
 {
     let left = reader.left();
     let count = reader.count()?;
-    if count > MOST_INDEXES {
-        return Err(Stop::Bad(Fault::Misfit(left)));
+    if count > MAX_INDEXES {
+        return Err(DecodeError::Bad(FieldError::Invalid(left)));
     }
     let mut list = Vec::new(alloc);
     for _ in 0..count {
@@ -42,20 +42,20 @@ fn indexes_at(alloc: Global, reader: &mut Reader) -> Result<Indexes, Stop>
     }
 }
 
-/// An index, which isn't among those before it.
+/// Reads a range index. One that is among those before it is invalid at its kind.
 #[tactic(auto, unfolding(crate::specs::RootReading::index_at))]
 fn index_at(
     alloc: Global,
     before: &[(Text, Kind)],
     reader: &mut Reader,
-) -> Result<(Text, Kind), Stop>
+) -> Result<(Text, Kind), DecodeError>
     ensures { Gives (λ x. (x, reader.new)) result (index_at before.now reader.old) }
 {
     let name = reader.text()?;
     let left = reader.left();
     let kind = type_at(reader)?;
     if is_indexed(before, name, kind) {
-        return Err(Stop::Bad(Fault::Misfit(left)));
+        return Err(DecodeError::Bad(FieldError::Invalid(left)));
     }
     Ok((Text::from_str(alloc, name)?, kind))
 }
@@ -68,13 +68,13 @@ fn is_indexed(list: &[(Text, Kind)], name: &str, kind: Kind) -> bool
 }
 
 #[tactic(auto, unfolding(crate::specs::RootReading::type_at))]
-fn type_at(reader: &mut Reader) -> Result<Kind, Stop>
+fn type_at(reader: &mut Reader) -> Result<Kind, DecodeError>
     ensures { Gives (λ x. (x, reader.new)) result (type_at reader.old) }
 {
     let left = reader.left();
     match reader.kind()? {
         0 => Ok(Kind::Decimal),
         1 => Ok(Kind::Text),
-        2.. => Err(Stop::Bad(Fault::Misfit(left))),
+        2.. => Err(DecodeError::Bad(FieldError::Invalid(left))),
     }
 }

@@ -1,4 +1,4 @@
-//! The bytes that bodies and operations begin with.
+//! The first bytes of bodies and operations.
 
 pub const COMMIT: u8 = 1;
 

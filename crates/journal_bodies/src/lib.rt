@@ -1,4 +1,4 @@
-//! The bodies of the frames of the logs as bytes: entries of a journal, and roots.
+//! The bodies of the logs' frames as bytes: entries of a journal, and roots.
 #![tactic(auto)]
 
 mod entry_reading;

@@ -9,26 +9,24 @@ ghost use Rattle.journal_bodies.specs.RootReading.{long_at};
 
 use crate::kinds::PUT;
 use crate::uris::{Met, fresh_at};
-use doc_model::{Document, Op, Ops, Text};
-use docs_format::{Fault, Reader, Stop, document};
+use doc_model::{Document, MAX_SIZE, Op, Ops, Text};
+use docs_format::{DecodeError, FieldError, Reader, document};
 use std::alloc::Global;
 
-const MOST_OPERATIONS: u32 = 1000;
+const MAX_OPERATIONS: u32 = doc_model::MAX_OPERATIONS as u32;
 
-const MOST_SIZE: u64 = 16_777_216;
-
-/// The operations of a commit.
+/// Reads the operations of a commit.
 #[tactic(auto, unfolding(crate::specs::EntryReading::ops_at))]
-pub fn ops_at(alloc: Global, reader: &mut Reader) -> Result<Ops, Stop>
+pub fn ops_at(alloc: Global, reader: &mut Reader) -> Result<Ops, DecodeError>
     ensures { Gives (λ x. (x, reader.new)) result (ops_at reader.old) }
 {
     let left = reader.left();
     let count = reader.count()?;
-    if count == 0 || count > MOST_OPERATIONS {
-        return Err(Stop::Bad(Fault::Misfit(left)));
+    if count == 0 || count > MAX_OPERATIONS {
+        return Err(DecodeError::Bad(FieldError::Invalid(left)));
     }
     let mut met = Met::new(alloc);
-    let mut room = MOST_SIZE;
+    let mut room = MAX_SIZE;
     let mut list = Vec::new(alloc);
     for _ in 0..count {
         list.push(op_at(alloc, &mut met, &mut room, reader)?)?;
@@ -39,14 +37,14 @@ pub fn ops_at(alloc: Global, reader: &mut Reader) -> Result<Ops, Stop>
     }
 }
 
-/// An operation, whose URI is noted, and whose size is taken off from the room that is left for documents.
+/// Reads an operation, adds its URI to `met`, and takes its size from `room`, the size that is left for documents.
 #[tactic(auto, unfolding(crate::specs::EntryReading::op_at))]
 fn op_at<'a>(
     alloc: Global,
     met: &mut Met<'a>,
     room: &mut u64,
     reader: &mut Reader<'a>,
-) -> Result<Op, Stop>
+) -> Result<Op, DecodeError>
     ensures op { (before : List model_op.Op) → HasOps met.old room.old before
         → Gives (λ x. (x, reader.new)) result (op_at before reader.old) }
     ensures noted { (before : List model_op.Op) → HasOps met.old room.old before
@@ -66,14 +64,14 @@ fn op_at<'a>(
     }
 }
 
-/// A document, whose URI is noted, and whose size is taken off from the room that is left.
+/// Reads a document, adds its URI to `met`, and takes its size from `room`.
 #[tactic(auto, unfolding(crate::specs::EntryReading::put_at))]
 fn put_at<'a>(
     alloc: Global,
     met: &mut Met<'a>,
     room: &mut u64,
     reader: &mut Reader<'a>,
-) -> Result<Document, Stop>
+) -> Result<Document, DecodeError>
     ensures document { (before : List model_op.Op) → HasOps met.old room.old before
         → Gives (λ x. (x, reader.new)) result (put_at before reader.old) }
     ensures noted { (before : List model_op.Op) → HasOps met.old room.old before
@@ -87,26 +85,26 @@ fn put_at<'a>(
             *room = rest;
             Ok(document)
         }
-        None => Err(Stop::Bad(Fault::Misfit(left))),
+        None => Err(DecodeError::Bad(FieldError::Invalid(left))),
     }
 }
 
-/// What an operation expects.
+/// Reads the timestamp that an operation expects, if any.
 #[tactic(auto, unfolding(crate::specs::EntryReading::expect_at, crate::specs::RootReading::long_at))]
-fn expect_at(reader: &mut Reader) -> Result<Option<u64>, Stop>
+fn expect_at(reader: &mut Reader) -> Result<Option<u64>, DecodeError>
     ensures { Gives (λ x. (x, reader.new)) result (expect_at reader.old) }
 {
     let left = reader.left();
     match reader.kind()? {
         0 => Ok(None),
         1 => Ok(Some(below(1 << 48, reader)?)),
-        2.. => Err(Stop::Bad(Fault::Misfit(left))),
+        2.. => Err(DecodeError::Bad(FieldError::Invalid(left))),
     }
 }
 
-/// A number below another one.
+/// Reads a number below `end`.
 #[tactic(auto, unfolding(crate::specs::RootReading::long_at))]
-pub fn below(end: u64, reader: &mut Reader) -> Result<u64, Stop>
+pub fn below(end: u64, reader: &mut Reader) -> Result<u64, DecodeError>
     ensures { Gives (λ x. (x, reader.new)) result (keeping (λ n. nat_lt n end) long_at reader.old) }
 {
     let left = reader.left();
@@ -114,12 +112,12 @@ pub fn below(end: u64, reader: &mut Reader) -> Result<u64, Stop>
     if number < end {
         Ok(number)
     } else {
-        Err(Stop::Bad(Fault::Misfit(left)))
+        Err(DecodeError::Bad(FieldError::Invalid(left)))
     }
 }
 
-/// A kind that is 1 or 2.
-pub fn one_or_two(reader: &mut Reader) -> Result<u8, Stop>
+/// Reads a kind that is 1 or 2.
+pub fn one_or_two(reader: &mut Reader) -> Result<u8, DecodeError>
     ensures { Gives (λ x. (x, reader.new)) result (keeping (λ byte. (byte == 1) || (byte == 2)) kind_at reader.old) }
 {
     let left = reader.left();
@@ -127,6 +125,6 @@ pub fn one_or_two(reader: &mut Reader) -> Result<u8, Stop>
     if kind == 1 || kind == 2 {
         Ok(kind)
     } else {
-        Err(Stop::Bad(Fault::Misfit(left)))
+        Err(DecodeError::Bad(FieldError::Invalid(left)))
     }
 }

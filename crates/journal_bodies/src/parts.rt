@@ -8,18 +8,18 @@ ghost use Rattle.journal_bodies.specs.declared.root.PartFiles.{PartFiles};
 
 use crate::files::{Seen, file_at};
 use crate::root::PartFiles;
-use docs_format::{Reader, Stop};
+use docs_format::{DecodeError, Reader};
 use sqlite_items::Items;
 use std::alloc::Global;
 
-/// The parts of a root, whose files are noted.
+/// Reads the parts of a root, and adds their files to `seen`.
 #[tactic(auto, unfolding(crate::specs::RootReading::parts_at))]
 pub fn parts_at(
     alloc: Global,
     next: u64,
     seen: &mut Seen,
     reader: &mut Reader,
-) -> Result<Items<PartFiles>, Stop>
+) -> Result<Items<PartFiles>, DecodeError>
     requires { HasFiles seen.old [] }
     ensures parts { Gives (λ x. (x, reader.new)) result (parts_at next reader.old) }
     ensures noted { IfOk result (λ x. HasFiles seen.new (flat_map files_of x)) }
@@ -33,7 +33,7 @@ pub fn parts_at(
 }
 
 #[tactic(auto, unfolding(crate::specs::RootReading::part_at))]
-fn part_at(next: u64, seen: &mut Seen, reader: &mut Reader) -> Result<PartFiles, Stop>
+fn part_at(next: u64, seen: &mut Seen, reader: &mut Reader) -> Result<PartFiles, DecodeError>
     ensures part { (before : List PartFiles) → HasFiles seen.old (flat_map files_of before)
         → Gives (λ x. (x, reader.new)) result (part_at next before reader.old) }
     ensures noted { (before : List PartFiles) → HasFiles seen.old (flat_map files_of before)
@@ -51,14 +51,14 @@ fn part_at(next: u64, seen: &mut Seen, reader: &mut Reader) -> Result<PartFiles,
     })
 }
 
-/// The files to be removed, none of which was noted before.
+/// Reads the files to be removed. A file that `seen` has is invalid.
 #[tactic(auto, unfolding(crate::specs::RootReading::removed_at))]
 pub fn removed_at(
     alloc: Global,
     next: u64,
     seen: &mut Seen,
     reader: &mut Reader,
-) -> Result<Items<u64>, Stop>
+) -> Result<Items<u64>, DecodeError>
     ensures { (others : List ℕ) → HasFiles seen.old others
         → Gives (λ x. (x, reader.new)) result (removed_at next others reader.old) }
 {

@@ -1,4 +1,4 @@
-//! What a root says.
+//! A root.
 
 use doc_model::Settings;
 use sqlite_items::Items;
@@ -15,7 +15,7 @@ pub struct PartFiles {
 /// A root: which files make up a database, and up to which timestamp they hold its history.
 #[derive(Debug, Drop)]
 pub struct Root {
-    /// Of two roots the one with the greater number counts.
+    /// The root with the greatest number counts.
     pub number: u64,
     /// The timestamp up to which the files hold the history.
     pub checkpoint: u64,

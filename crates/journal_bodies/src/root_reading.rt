@@ -1,7 +1,7 @@
 ghost use Rattle.std.specs.Prelude.{◌≡◌, ◌≤◌, nat_le, length, IfErr, IfOk, Ok};
-ghost use Rattle.docs_format.specs.Answers.{Gives};
+ghost use Rattle.docs_format.specs.Answers.{Decodes, Gives, IsPlaced};
 ghost use Rattle.docs_format.specs.Reading.{keeping};
-ghost use Rattle.journal_bodies.specs.Answers.{Answers, IsPlaced, alone, root_of};
+ghost use Rattle.journal_bodies.specs.Answers.{alone, root_of};
 ghost use Rattle.journal_bodies.specs.RootReading.{long_at, numbers_at, root_at};
 ghost use Rattle.journal_bodies.specs.Roots.{PlainRoot, SpellsRoot};
 
@@ -11,24 +11,24 @@ use crate::indexes::settings_at;
 use crate::kinds::ROOT;
 use crate::parts::{parts_at, removed_at};
 use crate::root::Root;
-use docs_format::{Fault, Reader, Stop};
+use docs_format::{DecodeError, FieldError, Reader};
 use std::alloc::Global;
 
-/// The root that bytes spell, all of the bytes.
+/// Decodes a root that takes all of the bytes.
 ///
-/// It takes time n log n, and no more memory than the bytes that are there call for.
+/// Takes time n log n, and allocates in proportion to the bytes that are there, not to the counts that they claim.
 pub fn read_root(alloc: Global, bytes: &[u8]) -> Result<Root, BodyBad>
     ensures found { IfOk result (λ root. SpellsRoot bytes.now root) }
-    ensures only { (root : PlainRoot) → SpellsRoot bytes.now root → Answers result (Ok root) }
-    ensures exact { Answers result (root_of bytes.now) }
+    ensures only { (root : PlainRoot) → SpellsRoot bytes.now root → Decodes result (Ok root) }
+    ensures exact { Decodes result (root_of bytes.now) }
     ensures within { IfErr result (IsPlaced (length bytes.now)) }
 {
     placed(alloc, bytes)
 }
 
-/// The root, or the place of the fault.
+/// Decodes a root, or returns the place of the first invalid field.
 fn placed(alloc: Global, bytes: &[u8]) -> Result<Root, BodyBad>
-    ensures { Answers result (root_of bytes.now) }
+    ensures { Decodes result (root_of bytes.now) }
 {
     match whole(alloc, bytes) {
         Ok(root) => Ok(root),
@@ -36,24 +36,24 @@ fn placed(alloc: Global, bytes: &[u8]) -> Result<Root, BodyBad>
     }
 }
 
-fn whole(alloc: Global, bytes: &[u8]) -> Result<Root, Stop>
+fn whole(alloc: Global, bytes: &[u8]) -> Result<Root, DecodeError>
     ensures { Gives (λ root. root) result (alone (root_at bytes.now)) }
 {
     let mut reader = Reader::new(bytes);
     let root = root_at(alloc, &mut reader)?;
     if reader.left() > 0 {
-        return Err(Stop::Bad(Fault::Misfit(reader.left())));
+        return Err(DecodeError::Bad(FieldError::Invalid(reader.left())));
     }
     Ok(root)
 }
 
 #[tactic(auto, unfolding(crate::specs::RootReading::root_at))]
-fn root_at(alloc: Global, reader: &mut Reader) -> Result<Root, Stop>
+fn root_at(alloc: Global, reader: &mut Reader) -> Result<Root, DecodeError>
     ensures { Gives (λ root. (root, reader.new)) result (root_at reader.old) }
 {
     let left = reader.left();
     if reader.kind()? != ROOT {
-        return Err(Stop::Bad(Fault::Misfit(left)));
+        return Err(DecodeError::Bad(FieldError::Invalid(left)));
     }
     let numbers = numbers_at(reader)?;
     let settings = settings_at(alloc, reader)?;
@@ -72,7 +72,7 @@ fn root_at(alloc: Global, reader: &mut Reader) -> Result<Root, Stop>
     })
 }
 
-/// The numbers at the front of a root.
+/// The numbers that a root begins with.
 #[derive(Clone, Copy)]
 struct RootNumbers {
     number: u64,
@@ -83,7 +83,7 @@ struct RootNumbers {
 }
 
 #[tactic(auto, unfolding(crate::specs::RootReading::numbers_at, crate::specs::RootReading::long_at))]
-fn numbers_at(reader: &mut Reader) -> Result<RootNumbers, Stop>
+fn numbers_at(reader: &mut Reader) -> Result<RootNumbers, DecodeError>
     ensures { Gives (λ n. (n, reader.new)) result (numbers_at reader.old) }
 {
     let number = at_least_one(reader)?;
@@ -101,7 +101,7 @@ fn numbers_at(reader: &mut Reader) -> Result<RootNumbers, Stop>
 }
 
 #[tactic(auto, unfolding(crate::specs::RootReading::long_at))]
-fn at_least_one(reader: &mut Reader) -> Result<u64, Stop>
+fn at_least_one(reader: &mut Reader) -> Result<u64, DecodeError>
     ensures { Gives (λ n. (n, reader.new)) result (keeping (λ n. nat_le 1 n) long_at reader.old) }
 {
     let left = reader.left();
@@ -109,12 +109,12 @@ fn at_least_one(reader: &mut Reader) -> Result<u64, Stop>
     if number >= 1 {
         Ok(number)
     } else {
-        Err(Stop::Bad(Fault::Misfit(left)))
+        Err(DecodeError::Bad(FieldError::Invalid(left)))
     }
 }
 
 #[tactic(auto, unfolding(crate::specs::RootReading::long_at))]
-fn at_most(most: u64, reader: &mut Reader) -> Result<u64, Stop>
+fn at_most(most: u64, reader: &mut Reader) -> Result<u64, DecodeError>
     ensures { Gives (λ n. (n, reader.new)) result (keeping (λ n. nat_le n most) long_at reader.old) }
 {
     let left = reader.left();
@@ -122,6 +122,6 @@ fn at_most(most: u64, reader: &mut Reader) -> Result<u64, Stop>
     if number <= most {
         Ok(number)
     } else {
-        Err(Stop::Bad(Fault::Misfit(left)))
+        Err(DecodeError::Bad(FieldError::Invalid(left)))
     }
 }

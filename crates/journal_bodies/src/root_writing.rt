@@ -11,7 +11,7 @@ use doc_model::{Kind, Settings, Text};
 use docs_format::{put_count, put_kind, put_long, put_text};
 use std::alloc::{AllocError, Global};
 
-/// The one spelling of a root.
+/// Encodes a root. Each root has one spelling.
 pub fn root_body(alloc: Global, root: &Root) -> Result<Vec<u8>, AllocError>
     requires { IsRoot root.now }
     ensures { IfOk result (λ bytes. SpellsRoot bytes.items root.now) }

@@ -5,16 +5,16 @@ ghost use Rattle.doc_model.specs.Tree.{is_among};
 ghost use Rattle.docs_format.specs.Answers.{Gives, HasNames};
 ghost use Rattle.journal_bodies.specs.EntryReading.{fresh_at};
 
-use docs_format::{Fault, Reader, Stop};
+use docs_format::{DecodeError, FieldError, Reader};
 use std::alloc::AllocError;
 use std::collections::BTreeMap;
 
-/// The URIs that were met so far.
+/// The URIs that were read so far.
 pub type Met<'a> = BTreeMap<&'a str, ()>;
 
-/// A URI, which is noted. It isn't among those that were noted before.
+/// Reads a URI and adds it to `met`. A URI that `met` has is invalid.
 #[tactic(auto, unfolding(crate::specs::EntryReading::fresh_at))]
-pub fn fresh_at<'a>(met: &mut Met<'a>, reader: &mut Reader<'a>) -> Result<&'a str, Stop>
+pub fn fresh_at<'a>(met: &mut Met<'a>, reader: &mut Reader<'a>) -> Result<&'a str, DecodeError>
     ensures uri { (others : List (List ℕ)) → HasNames met.old others
         → Gives (λ x. (x.now, reader.new)) result (fresh_at others reader.old) }
     ensures noted { (others : List (List ℕ)) → HasNames met.old others
@@ -25,11 +25,11 @@ pub fn fresh_at<'a>(met: &mut Met<'a>, reader: &mut Reader<'a>) -> Result<&'a st
     if is_fresh(met, uri)? {
         Ok(uri)
     } else {
-        Err(Stop::Bad(Fault::Misfit(left)))
+        Err(DecodeError::Bad(FieldError::Invalid(left)))
     }
 }
 
-/// Whether a URI wasn't noted before. It is from now on.
+/// Adds a URI, and returns whether it is new.
 fn is_fresh<'a>(met: &mut Met<'a>, uri: &'a str) -> Result<bool, AllocError>
     ensures fresh { (others : List (List ℕ)) → HasNames met.old others
         → IfOk result (λ fresh. fresh ≡ not (is_among others uri.now)) }

@@ -69,28 +69,28 @@ same_database h none at =
     ap₂ (λ here db. cond (leb at h.base.front) here
     (after_entries h.base.front (take (at - h.base.front) h.entries) db)) this last
 
--- the databases of one base stand in another one, those from its merge timestamp on under their own timestamps
-abbrev StandsIn : Base → Base → ℕ → Type 0
-StandsIn b c at = (to : ℕ) × (c.merge ≤ at → to ≡ at) × (base_at c at ≡ base_at b to)
+-- a base has the databases of another one from its merge timestamp on, under their own timestamps
+abbrev IsInDirectory : Base → Base → ℕ → Type 0
+IsInDirectory b c at = (to : ℕ) × (c.merge ≤ at → to ≡ at) × (base_at c at ≡ base_at b to)
 
 -- a base from a later merge timestamp on is a base
 part_is_base : (b c : Base) → IsBase b → b.merge ≤ c.merge → c.merge ≤ c.front → c.front ≡ b.front →
-    length c.databases ≡ c.front + 1 - c.merge → ((at : ℕ) → StandsIn b c at) → IsBase c
-part_is_base b c is lower ordered fronts each stands = record {
+    length c.databases ≡ c.front + 1 - c.merge → ((at : ℕ) → IsInDirectory b c at) → IsBase c
+part_is_base b c is lower ordered fronts each lies = record {
   ordered = ordered;
   each = each;
-  uris = λ at uri v got. is.uris (stands at).0 uri v (found at uri v got);
+  uris = λ at uri v got. is.uris (lies at).0 uri v (found at uri v got);
   stamps = λ at uri v low high got.
-      let there : (stands at).0 ≡ at = (stands at).1 low in
-      let created = is.stamps (stands at).0 uri v (omega (arith, there, low, lower))
+      let there : (lies at).0 ≡ at = (lies at).1 low in
+      let created = is.stamps (lies at).0 uri v (omega (arith, there, low, lower))
       (omega (arith, there, high, fronts)) (found at uri v got) in (created.0, omega (arith, created.1, there));
   same = λ at to uri v w got other created.
-      is.same (stands at).0 (stands to).0 uri v w (found at uri v got) (found to uri w other) created;
+      is.same (lies at).0 (lies to).0 uri v w (found at uri v got) (found to uri w other) created;
 }
   where
     found : (at : ℕ) (uri : List ℕ) (v : Version) → get (base_at c at) uri ≡ Some v →
-        get (base_at b (stands at).0) uri ≡ Some v
-    found at uri v got = ap (λ db. get db uri) (sym (stands at).2) ∙ got
+        get (base_at b (lies at).0) uri ≡ Some v
+    found at uri v got = ap (λ db. get db uri) (sym (lies at).2) ∙ got
 
 module _ (h : History) (none : (at : ℕ) → base_at h.base at ≡ no_documents) (ordered : merge h ≤ front h)
     (lower : merge (over_zero h) ≤ merge h) where
@@ -113,8 +113,8 @@ module _ (h : History) (none : (at : ℕ) → base_at h.base at ≡ no_documents
     length-map-range_with_len (database_at k) (merge k) (front k + 1 - merge k),
   ))
 
-  shown_stands : (at : ℕ) → StandsIn (shown (over_zero h)) (shown h) at
-  shown_stands at = ⊎_elim
+  shown_lies : (at : ℕ) → IsInDirectory (shown (over_zero h)) (shown h) at
+  shown_lies at = ⊎_elim
       (λ before. (
         merge h,
         λ low. absurd (omega (arith, before, low)),
@@ -138,7 +138,7 @@ shown_over_none h none ordered are =
     part_is_base (shown (over_zero h)) (shown h)
     (shown_is_a_base (over_zero h) (record { base = zero_is_base h.base; entries = rules.0 }))
     rules.1 ordered refl (length-map-range_with_len (database_at h) (merge h) (front h + 1 - merge h))
-    (shown_stands h none ordered rules.1)
+    (shown_lies h none ordered rules.1)
 
 pub what_is_shown_is_a_base : WhatIsShownIsABase
 what_is_shown_is_a_base image base shows = subst IsBase (sym shows.shown)

@@ -60,7 +60,7 @@ one_bad_entry body at to this that = same_err at to (entry_of body) this that
 
 -- ---- the bodies of a log
 
--- each of these bodies fits
+-- each of these bodies is valid
 abbrev Fit : (List ℕ → Type 0) → List (List ℕ) → Type 0
 Fit fits bodies = (k : ℕ) (body : List ℕ) → slice_get bodies k ≡ Some body → fits body
 
@@ -91,7 +91,7 @@ module _ (fits : List ℕ → Type 0) (breaks : List ℕ → ℕ → Type 0)
   all_fit : (bodies : List (List ℕ)) (place : ℕ) → Fit fits bodies → HasBadBody fits breaks bodies place → ⊥
   all_fit bodies place fit bad = good bad.body bad.at (fit bad.k bad.body bad.here) bad.broken
 
-  -- where each body fits, the log breaks no rule
+  -- where each body is valid, the log breaks no rule
   fitting_log : (bodies : List (List ℕ)) (bytes : List ℕ) (place : ℕ) → HasFrames bodies bytes → Fit fits bodies →
       LogBreaks fits breaks bytes place → ⊥
   fitting_log bodies bytes place has fit (inl damaged) = damaged_has_none place bodies bytes damaged has

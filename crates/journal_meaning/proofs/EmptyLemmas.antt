@@ -1,11 +1,11 @@
--- What is told where no entries are past the checkpoint.
+-- What logs tell without entries past the checkpoint.
 use Rattle.std.proofs.Common.{◌≡◌, inl, ℕ, zero, suc, ◌+◌, ◌-◌, ◌<◌, ◌≤◌, leb, List, [], ◌∷◌, ◌++◌, length, map, refl, sym, ap, ◌∙◌, subst, All, arith}
 use Rattle.std.proofs.lemmas.Bool.{cond_both}
 use Rattle.std.proofs.lemmas.List.Elements.{All-cons, All-nil}
 use Rattle.doc_model.specs.declared.settings.Settings.{Settings}
 use Rattle.doc_meaning.specs.History.{empty_base, front, settings_of}
 use Rattle.journal_bodies.specs.Roots.{PlainRoot, SpellsRoot}
-use Rattle.journal_meaning.specs.Bodies.{IsJournal, IsWithoutFiles, Numbered, RiseFrom, TellsEntries, in_turn, past}
+use Rattle.journal_meaning.specs.Bodies.{IsJournal, IsWithoutFiles, Numbered, RiseFrom, TellsEntries, by_first_number, past}
 use Rattle.journal_meaning.specs.Laws.{FirstRootIsTold, OldEntriesDoNotCount}
 use Rattle.journal_meaning.specs.Shown.{TakesNext, Tells, TellsAt, first_root, only_body, without_first}
 use Rattle.journal_meaning.proofs.OneLemmas.{same_root}
@@ -70,7 +70,7 @@ first_root_is_told settings body (suc zero) spelled journal =
 first_root_is_told settings body (suc (suc file)) spelled journal = absurd (omega (arith, journal))
 
 -- where journals in turn tell no entry, neither has one
-no_turn : (zeros ones : List Numbered) → [] ≡ map (λ e. e.1) (in_turn zeros ones) → (zeros ≡ []) × (ones ≡ [])
+no_turn : (zeros ones : List Numbered) → [] ≡ map (λ e. e.1) (by_first_number zeros ones) → (zeros ≡ []) × (ones ≡ [])
 no_turn [] [] none = (refl, refl)
 no_turn [] (f ∷ ones) none = absurd (cc)
 no_turn (e ∷ zeros) [] none = absurd (cc)
@@ -121,5 +121,5 @@ old_entries_do_not_count bodies h tells none = record {
     both = no_turn (past tells.root.checkpoint told.entries_0) (past tells.root.checkpoint told.entries_1)
         (sym none ∙ told.entries)
 
-    nothing : in_turn [] (past tells.root.checkpoint told.entries_1) ≡ []
-    nothing = ap (in_turn []) both.1
+    nothing : by_first_number [] (past tells.root.checkpoint told.entries_1) ≡ []
+    nothing = ap (by_first_number []) both.1

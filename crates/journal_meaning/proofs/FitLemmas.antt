@@ -5,7 +5,7 @@ use Rattle.std.proofs.lemmas.List.{take-take}
 use Rattle.doc_model.specs.declared.entry.Entry.{Entry}
 use Rattle.doc_meaning.specs.History.{AreEntries}
 use Rattle.journal_bodies.specs.Roots.{PlainRoot}
-use Rattle.journal_meaning.specs.Bodies.{Bodies, IsJournal, Numbered, RiseFrom, SpellEntries, TellsEntries, in_turn, past}
+use Rattle.journal_meaning.specs.Bodies.{Bodies, IsJournal, Numbered, RiseFrom, SpellEntries, TellsEntries, by_first_number, past}
 use Rattle.journal_meaning.specs.Damages.{BreaksStep, BreaksTurn, DoNotFit, IsApart, IsBelowHorizon, IsFound, gate_of, own_of}
 use Rattle.journal_meaning.proofs.BodyLemmas.{none_some, same_some}
 use Rattle.journal_meaning.proofs.OneLemmas.{newest_is_one, one_journal, one_root_log}
@@ -63,9 +63,9 @@ one_apart entries k j a b = ⊎_elim
 
 -- ---- the root's place
 
--- in this root log, and there at this place, stands the root behind so many others
-abbrev Stands : List PlainRoot → ℕ → ℕ → ℕ → Type 0
-Stands roots_0 file k before =
+-- the root is in this root log at this place, after so many others
+abbrev LiesAt : List PlainRoot → ℕ → ℕ → ℕ → Type 0
+LiesAt roots_0 file k before =
     ((file ≡ 2) × (k ≡ before) × (k < length roots_0)) ⊎ ((file ≡ 3) × (length roots_0 + k ≡ before))
 
 one_found : (roots_0 roots_1 : List PlainRoot) (root : PlainRoot) (file other k j : ℕ) →
@@ -75,7 +75,7 @@ one_found roots_0 roots_1 root file other k j f g = go f.here g.here
     same : length f.newest.before ≡ length g.newest.before
     same = (newest_is_one (roots_0 ++ roots_1) root root f.newest g.newest).1
 
-    go : Stands roots_0 file k (length f.newest.before) → Stands roots_0 other j (length g.newest.before) →
+    go : LiesAt roots_0 file k (length f.newest.before) → LiesAt roots_0 other j (length g.newest.before) →
         (file ≡ other) × (k ≡ j)
     go (inl this) (inl that) = (this.0 ∙ sym that.0, omega (arith, this.1, that.1, same))
     go (inl this) (inr that) = absurd (omega (arith, this.1, this.2, that.1, same))
@@ -94,19 +94,19 @@ own_rises bodies (suc (suc file)) entries_0 entries_1 journal zeros ones = absur
 -- what journals tell follows the root
 pub told_follow : (bodies : Bodies) (root : PlainRoot) (told : List Entry)
     (t : TellsEntries bodies root.checkpoint told) → AreEntries root.checkpoint root.merge told →
-    Follow root (in_turn (past root.checkpoint t.entries_0) (past root.checkpoint t.entries_1))
+    Follow root (by_first_number (past root.checkpoint t.entries_0) (past root.checkpoint t.entries_1))
 told_follow bodies root told t are =
     record { rises = t.rises; rules = subst (AreEntries root.checkpoint root.merge) t.entries are }
 
 step_follows : (bodies : Bodies) (root : PlainRoot) (file place : ℕ) (b : BreaksStep bodies root file place) →
-    Follow root (in_turn (past root.checkpoint b.entries_0) (past root.checkpoint b.entries_1))
+    Follow root (by_first_number (past root.checkpoint b.entries_0) (past root.checkpoint b.entries_1))
 step_follows bodies root file place b = record { rises = b.in_order; rules = b.rules }
 
 module _ (bodies : Bodies) (root : PlainRoot) where
   -- entries that follow the root aren't misplaced
   pub no_turn_broken : (file place : ℕ) (entries_0 entries_1 : List Numbered) → BreaksTurn bodies root file place →
       SpellEntries (bodies 0) entries_0 → SpellEntries (bodies 1) entries_1 →
-      Follow root (in_turn (past root.checkpoint entries_0) (past root.checkpoint entries_1)) → ⊥
+      Follow root (by_first_number (past root.checkpoint entries_0) (past root.checkpoint entries_1)) → ⊥
   no_turn_broken file place entries_0 entries_1 b spelled_0 spelled_1 follow =
       let zeros = one_journal (bodies 0) b.entries_0 entries_0 b.first_journal spelled_0 in
       let ones = one_journal (bodies 1) b.entries_1 entries_1 b.second_journal spelled_1 in

@@ -5,7 +5,7 @@ use Rattle.doc_model.specs.declared.entry.Entry.{Entry}
 use Rattle.doc_meaning.proofs.EntryLemmas.{rules_push}
 use Rattle.doc_meaning.specs.History.{AreEntries, History, front, merge, merge_after}
 use Rattle.journal_bodies.specs.Entries.{SpellsEntry}
-use Rattle.journal_meaning.specs.Bodies.{Bodies, IsJournal, Numbered, RiseFrom, SpellEntries, TellsEntries, in_turn, past}
+use Rattle.journal_meaning.specs.Bodies.{Bodies, IsJournal, Numbered, RiseFrom, SpellEntries, TellsEntries, by_first_number, past}
 use Rattle.journal_meaning.specs.Laws.{AnotherEntryIsTold}
 use Rattle.journal_meaning.specs.Shown.{IsCurrent, TakesNext, Tells, TellsAt, with_body, with_entry}
 use Rattle.journal_meaning.proofs.EntryLemmas.{front_push, merge_push}
@@ -75,12 +75,12 @@ module _ (checkpoint end : ℕ) (own other : List Numbered) (takes : TakesNext c
 -- what is told, by other lists of the same journals
 told_by : (bodies : Bodies) (checkpoint : ℕ) (told : List Entry) (first second all : List Numbered) →
     TellsEntries bodies checkpoint told → IsJournal (bodies 0) first → IsJournal (bodies 1) second →
-    in_turn (past checkpoint first) (past checkpoint second) ≡ all → told ≡ map (λ e. e.1) all
+    by_first_number (past checkpoint first) (past checkpoint second) ≡ all → told ≡ map (λ e. e.1) all
 told_by bodies checkpoint told first second all tells zeros ones turn =
     let these = one_journal (bodies 0) tells.entries_0 first tells.first_journal.spelled zeros.spelled in
     let those = one_journal (bodies 1) tells.entries_1 second tells.second_journal.spelled ones.spelled in
     tells.entries
-    ∙ ap₂ (λ a b. map (λ (e : Numbered). e.1) (in_turn (past checkpoint a) (past checkpoint b))) these those
+    ∙ ap₂ (λ a b. map (λ (e : Numbered). e.1) (by_first_number (past checkpoint a) (past checkpoint b))) these those
     ∙ ap (map (λ (e : Numbered). e.1)) turn
 
 module _ (bodies : Bodies) (checkpoint end : ℕ) (told : List Entry) (body : List ℕ) (entry : Entry)

@@ -11,7 +11,7 @@ use Rattle.journal_bodies.proofs.RootPlaces.{roots_are_read}
 use Rattle.journal_bodies.specs.Answers.{entry_of}
 use Rattle.journal_bodies.specs.Entries.{SpellsEntry}
 use Rattle.journal_bodies.specs.Roots.{PlainRoot, SpellsRoot}
-use Rattle.journal_meaning.specs.Bodies.{AreRoots, Bodies, HasBodies, IsJournal, IsNewest, Numbered, SpellEntries, TellsEntries, TellsRoot, in_turn, past}
+use Rattle.journal_meaning.specs.Bodies.{AreRoots, Bodies, HasBodies, IsJournal, IsNewest, Numbered, SpellEntries, TellsEntries, TellsRoot, by_first_number, past}
 
 -- a body spells one entry
 one_entry : (body : List ℕ) (e f : Numbered) → SpellsEntry body e.0 e.1 → SpellsEntry body f.0 f.1 → e ≡ f
@@ -53,7 +53,7 @@ all_at P xs before behind x is all =
     All-contains P (before ++ x ∷ behind) x (All-same P (before ++ x ∷ behind) xs (sym is) all)
     (Contains-append_right before (x ∷ behind) x (0, (omega arith), refl))
 
--- a root that is greater than all before it and no less than all behind it is one, and stands at one place
+-- a root that is greater than all before it and no less than all behind it is one, at one place
 newest_same : (a b c d : List PlainRoot) (r s : PlainRoot) → a ++ r ∷ c ≡ b ++ s ∷ d →
     All (λ q. q.number < r.number) a → All (λ q. q.number ≤ r.number) c →
     All (λ q. q.number < s.number) b → All (λ q. q.number ≤ s.number) d → (r ≡ s) × (length a ≡ length b)
@@ -98,7 +98,7 @@ one_list_told bodies checkpoint es fs one other =
     let second =
     one_journal (bodies 1) one.entries_1 other.entries_1 one.second_journal.spelled other.second_journal.spelled in
     one.entries
-    ∙ ap₂ (λ a b. map (λ (e : Numbered). e.1) (in_turn (past checkpoint a) (past checkpoint b))) first second
+    ∙ ap₂ (λ a b. map (λ (e : Numbered). e.1) (by_first_number (past checkpoint a) (past checkpoint b))) first second
     ∙ sym other.entries
 
 -- the logs of an image have one list of frames each

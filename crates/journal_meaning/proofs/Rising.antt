@@ -3,7 +3,7 @@ use Rattle.std.proofs.Common.{◌≡◌, ℕ, ◌+◌, ◌<◌, ltb, leb, List, 
 use Rattle.std.proofs.lemmas.Bool.{cond-false, cond-true, le-leb, lt-leb, lt-ltb}
 use Rattle.std.proofs.lemmas.List.{append-nil}
 use Rattle.std.proofs.lemmas.List.Elements.{filter-append}
-use Rattle.journal_meaning.specs.Bodies.{Numbered, RiseFrom, in_turn, past}
+use Rattle.journal_meaning.specs.Bodies.{Numbered, RiseFrom, by_first_number, past}
 
 pub rise_head : (n : ℕ) (e : Numbered) (es : List Numbered) → RiseFrom n (e ∷ es) → e.0 ≡ n
 rise_head n e es is = cc
@@ -34,7 +34,7 @@ rise_at n (x ∷ es) e more rises =
     let rest = rise_at (n + 1) es e more (rise_tail n x (es ++ e ∷ more) rises) in omega arith
 
 -- where the second journal's entries come first, they go first
-pub second_first : (n : ℕ) (own other : List Numbered) → RiseFrom n (other ++ own) → in_turn own other ≡ other ++ own
+pub second_first : (n : ℕ) (own other : List Numbered) → RiseFrom n (other ++ own) → by_first_number own other ≡ other ++ own
 second_first n [] [] rises = refl
 second_first n [] (f ∷ other) rises = sym (append-nil (f ∷ other))
 second_first n (e ∷ own) [] rises = append-nil (e ∷ own)
@@ -44,7 +44,7 @@ second_first n (e ∷ own) (f ∷ other) rises =
     cond-false (leb e.0 f.0) _ _ (lt-leb e.0 f.0 (omega arith))
 
 -- and where the first journal's do
-pub first_first : (n : ℕ) (own other : List Numbered) → RiseFrom n (other ++ own) → in_turn other own ≡ other ++ own
+pub first_first : (n : ℕ) (own other : List Numbered) → RiseFrom n (other ++ own) → by_first_number other own ≡ other ++ own
 first_first n [] [] rises = refl
 first_first n (e ∷ own) [] rises = refl
 first_first n [] (f ∷ other) rises = refl

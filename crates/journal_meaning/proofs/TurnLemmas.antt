@@ -7,7 +7,7 @@ use Rattle.doc_model.specs.declared.entry.Entry.{Entry}
 use Rattle.doc_model.specs.declared.entry.Entry.TheVariants.{Commit, Forget}
 use Rattle.doc_meaning.specs.History.{AreEntries, merge_after}
 use Rattle.journal_bodies.specs.Roots.{PlainRoot}
-use Rattle.journal_meaning.specs.Bodies.{Numbered, RiseFrom, in_turn, past}
+use Rattle.journal_meaning.specs.Bodies.{Numbered, RiseFrom, by_first_number, past}
 use Rattle.journal_meaning.specs.Damages.{IsBelow, IsMisplaced, goes_first, other_of, own_of}
 use Rattle.journal_meaning.proofs.BodyLemmas.{none_some, same_some}
 use Rattle.journal_meaning.proofs.Rising.{rise_at}
@@ -85,7 +85,7 @@ not_after e f = ⊎_elim
 abbrev in_order : ℕ → List Numbered → List Numbered → List Numbered
 in_order file own other = cond (goes_first file own other) (own ++ other) (other ++ own)
 
-turn_first : (zeros ones : List Numbered) → in_turn zeros ones ≡ in_order 0 zeros ones
+turn_first : (zeros ones : List Numbered) → by_first_number zeros ones ≡ in_order 0 zeros ones
 turn_first [] [] = refl
 turn_first [] (f ∷ ones) = sym (append-nil (f ∷ ones))
 turn_first (e ∷ zeros) [] = refl
@@ -96,7 +96,7 @@ cond_not : {X : Type 0} (b : Bool) (x y : X) → cond b x y ≡ cond (not b) y x
 cond_not true x y = refl
 cond_not false x y = refl
 
-turn_second : (zeros ones : List Numbered) → in_turn zeros ones ≡ in_order 1 ones zeros
+turn_second : (zeros ones : List Numbered) → by_first_number zeros ones ≡ in_order 1 ones zeros
 turn_second [] [] = refl
 turn_second [] (f ∷ ones) = sym (append-nil (f ∷ ones))
 turn_second (e ∷ zeros) [] = refl
@@ -160,7 +160,7 @@ own_splits : (root : PlainRoot) (file : ℕ) (own other : List Numbered) (k : �
 own_splits root file own other k m =
     past_splits root.checkpoint own (take k own) m.e m.late (split k own m.e m.here)
 
--- of two misplaced entries of one journal neither stands before the other
+-- of two misplaced entries of one journal neither is before the other
 not_before : (root : PlainRoot) (file : ℕ) (own other : List Numbered) (k j : ℕ)
     (m : IsMisplaced root file own other k) (n : IsMisplaced root file own other j) → k < j → ⊥
 not_before root file own other k j m n lt =
@@ -229,15 +229,15 @@ module _ (root : PlainRoot) (entries_0 entries_1 : List Numbered) where
   one_misplaced file (suc (suc other)) k j this that m n = absurd (omega (arith, that))
 
   -- where they follow each other in turn none is
-  pub none_misplaced : (file k : ℕ) → file ≤ 1 → Misplaced file k → Follow root (in_turn zeros ones) → ⊥
+  pub none_misplaced : (file k : ℕ) → file ≤ 1 → Misplaced file k → Follow root (by_first_number zeros ones) → ⊥
   none_misplaced zero k journal m follow =
       let parts =
       order_splits (goes_first 0 zeros ones) zeros ones _ m.e (own_splits root 0 entries_0 entries_1 k m) in
-      follows root 0 entries_0 entries_1 k (in_turn zeros ones) m follow
+      follows root 0 entries_0 entries_1 k (by_first_number zeros ones) m follow
       (parts.0, turn_first zeros ones ∙ parts.1 ∙ ap (λ l. l ++ m.e ∷ parts.0) (sym m.read))
   none_misplaced (suc zero) k journal m follow =
       let parts =
       order_splits (goes_first 1 ones zeros) ones zeros _ m.e (own_splits root 1 entries_1 entries_0 k m) in
-      follows root 1 entries_1 entries_0 k (in_turn zeros ones) m follow
+      follows root 1 entries_1 entries_0 k (by_first_number zeros ones) m follow
       (parts.0, turn_second zeros ones ∙ parts.1 ∙ ap (λ l. l ++ m.e ∷ parts.0) (sym m.read))
   none_misplaced (suc (suc file)) k journal m follow = absurd (omega (arith, journal))

@@ -16,7 +16,7 @@ Bodies = ℕ → List (List ℕ)
 abbrev pub HasBodies : Bodies → Image → Type 0
 HasBodies bodies image = (file : ℕ) → file < LOG_COUNT → HasFrames (bodies file) (image file)
 
--- each log of the image has the frames that are kept, or more
+-- each log of the image has the frames of `kept`, and perhaps those of `more`
 abbrev pub MayHaveBodies : Bodies → Bodies → Image → Type 0
 MayHaveBodies kept more image = (file : ℕ) → file < LOG_COUNT → MayHave (kept file) (more file) (image file)
 
@@ -28,7 +28,7 @@ Numbered = ℕ × Entry
 abbrev pub SpellEntries : List (List ℕ) → List Numbered → Type 0
 SpellEntries bodies entries = AllZip (λ body e. SpellsEntry body e.0 e.1) bodies entries
 
--- their numbers rise by one, from this one on
+-- their numbers are n, n + 1 and so on
 abbrev pub RiseFrom : ℕ → List Numbered → Type 0
 RiseFrom n entries = map (λ e. e.0) entries ≡ range_with_len n (length entries)
 
@@ -42,13 +42,13 @@ pub record IsJournal (bodies : List (List ℕ)) (entries : List Numbered) : Type
 abbrev pub past : ℕ → List Numbered → List Numbered
 past checkpoint entries = filter (λ e. nat_lt checkpoint e.0) entries
 
--- the entries of two journals, one journal after the other in the order of their first numbers; the first journal goes
--- first where these are equal
-abbrev pub in_turn : List Numbered → List Numbered → List Numbered
-in_turn (e ∷ zero) (f ∷ one) = if nat_le e.0 f.0 then (e ∷ zero) ++ f ∷ one else (f ∷ one) ++ e ∷ zero
-in_turn zero one = zero ++ one
+-- the entries of two journals, one journal after the other in the order of their first numbers; the first journal comes
+-- first if these are equal
+abbrev pub by_first_number : List Numbered → List Numbered → List Numbered
+by_first_number (e ∷ zero) (f ∷ one) = if nat_le e.0 f.0 then (e ∷ zero) ++ f ∷ one else (f ∷ one) ++ e ∷ zero
+by_first_number zero one = zero ++ one
 
--- of roots the one with the greatest number, of equal ones the first
+-- the root with the greatest number, the first of equal ones
 pub record IsNewest (roots : List PlainRoot) (root : PlainRoot) : Type 0 where
   pub before : List PlainRoot
   pub behind : List PlainRoot
@@ -56,7 +56,7 @@ pub record IsNewest (roots : List PlainRoot) (root : PlainRoot) : Type 0 where
   pub earlier : All (λ r. r.number < root.number) before
   pub later : All (λ r. r.number ≤ root.number) behind
 
--- a root that names no files; so far none names any
+-- a root that names no files, as no root does so far
 abbrev pub IsWithoutFiles : PlainRoot → Type 0
 IsWithoutFiles root = (root.parts ≡ []) × (root.removed ≡ [])
 
@@ -65,7 +65,7 @@ pub record AreRoots (bodies : List (List ℕ)) (roots : List PlainRoot) : Type 0
   pub spelled : AllZip SpellsRoot bodies roots
   pub without_files : All IsWithoutFiles roots
 
--- the root logs tell this root: the newest of theirs, log 2 before log 3
+-- this is the newest root of the root logs, log 2 before log 3
 pub record TellsRoot (bodies : Bodies) (root : PlainRoot) : Type 0 where
   pub roots_0 : List PlainRoot
   pub roots_1 : List PlainRoot
@@ -73,11 +73,11 @@ pub record TellsRoot (bodies : Bodies) (root : PlainRoot) : Type 0 where
   pub second_log : AreRoots (bodies 3) roots_1
   pub newest : IsNewest (roots_0 ++ roots_1) root
 
--- the journals tell these entries: past the checkpoint they are numbered one after the other, each once
+-- the journals tell these entries past the checkpoint, whose numbers rise by one
 pub record TellsEntries (bodies : Bodies) (checkpoint : ℕ) (told : List Entry) : Type 0 where
   pub entries_0 : List Numbered
   pub entries_1 : List Numbered
   pub first_journal : IsJournal (bodies 0) entries_0
   pub second_journal : IsJournal (bodies 1) entries_1
-  pub rises : RiseFrom (checkpoint + 1) (in_turn (past checkpoint entries_0) (past checkpoint entries_1))
-  pub entries : told ≡ map (λ e. e.1) (in_turn (past checkpoint entries_0) (past checkpoint entries_1))
+  pub rises : RiseFrom (checkpoint + 1) (by_first_number (past checkpoint entries_0) (past checkpoint entries_1))
+  pub entries : told ≡ map (λ e. e.1) (by_first_number (past checkpoint entries_0) (past checkpoint entries_1))

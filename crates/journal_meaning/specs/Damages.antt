@@ -8,13 +8,13 @@ use Rattle.frame_log.specs.Frames.{HasFrames, IsDamaged, framed}
 use Rattle.journal_bodies.specs.Answers.{entry_of, root_of}
 use Rattle.journal_bodies.specs.Entries.{SpellsEntry}
 use Rattle.journal_bodies.specs.Roots.{PlainRoot, SpellsRoot, listed, numbers, part, settings}
-use Rattle.journal_meaning.specs.Bodies.{AreRoots, Bodies, HasBodies, IsNewest, IsWithoutFiles, Numbered, RiseFrom, SpellEntries, TellsEntries, TellsRoot, in_turn, past}
+use Rattle.journal_meaning.specs.Bodies.{AreRoots, Bodies, HasBodies, IsNewest, IsWithoutFiles, Numbered, RiseFrom, SpellEntries, TellsEntries, TellsRoot, by_first_number, past}
 
--- where the gate of the frame with this body stands, by its place in the list
+-- the place of the gate of the frame with this number
 abbrev pub gate_of : List (List ℕ) → ℕ → ℕ
 gate_of bodies k = length (framed (take k bodies))
 
--- of these bodies the first that doesn't fit, which breaks a rule at a place of its own; behind its gate and its length
+-- the first invalid body breaks a rule; the place counts from the gate of its frame, past the gate and the length
 pub record HasBadBody (fits : List ℕ → Type 0) (breaks : List ℕ → ℕ → Type 0) (bodies : List (List ℕ)) (place : ℕ)
     : Type 0 where
   pub k : ℕ
@@ -25,53 +25,53 @@ pub record HasBadBody (fits : List ℕ → Type 0) (breaks : List ℕ → ℕ �
   pub broken : breaks body at
   pub placed : place ≡ gate_of bodies k + 9 + at
 
--- a root names parts or files to be removed, which none does so far; the place in its body is that of their count
+-- a root names parts or files to be removed, which none does so far; the place is that of their count in its body
 abbrev pub NamesFiles : PlainRoot → ℕ → Type 0
 NamesFiles root at =
     ((root.parts ≢ []) × (at ≡ length (3 ∷ numbers root ++ settings root.settings)))
     ⊎ ((root.parts ≡ []) × (root.removed ≢ [])
     × (at ≡ length (3 ∷ numbers root ++ settings root.settings ++ listed part root.parts)))
 
--- a body of a root log, and what isn't one
+-- a valid body of a root log, and an invalid one
 abbrev pub IsRootBody : List ℕ → Type 0
 IsRootBody body = (root : PlainRoot) × SpellsRoot body root × IsWithoutFiles root
 
 abbrev pub IsBadRoot : List ℕ → ℕ → Type 0
 IsBadRoot body at = (root_of body ≡ Err at) ⊎ ((root : PlainRoot) × SpellsRoot body root × NamesFiles root at)
 
--- the roots of a root log break a rule at this place
+-- a body of a root log breaks a rule at this place
 abbrev pub AreBadRoots : List (List ℕ) → ℕ → Type 0
 AreBadRoots bodies place = HasBadBody IsRootBody IsBadRoot bodies place
 
--- a body of a journal, and what isn't one
+-- a valid body of a journal, and an invalid one
 abbrev pub IsEntryBody : List ℕ → Type 0
 IsEntryBody body = (e : Numbered) × SpellsEntry body e.0 e.1
 
 abbrev pub IsBadEntry : List ℕ → ℕ → Type 0
 IsBadEntry body at = entry_of body ≡ Err at
 
--- the entries of a journal break a rule at this place, each by itself
+-- a body of a journal breaks a rule at this place
 abbrev pub AreBadEntries : List (List ℕ) → ℕ → Type 0
 AreBadEntries bodies place = HasBadBody IsEntryBody IsBadEntry bodies place
 
--- whether the entries of this journal are read before those of the other one
+-- whether the entries of this journal come before those of the other one
 abbrev pub goes_first : ℕ → List Numbered → List Numbered → Bool
 goes_first file own [] = true
 goes_first file [] (f ∷ other) = false
 goes_first file (e ∷ own) (f ∷ other) = nat_lt e.0 f.0 || ((e.0 == f.0) && (file == 0))
 
--- the entries past a checkpoint that are read before the one in this frame of this journal
+-- the entries past a checkpoint that come before the one in this frame of this journal
 abbrev pub read_before : ℕ → ℕ → List Numbered → List Numbered → ℕ → List Numbered
 read_before checkpoint file own other k =
     (if goes_first file (past checkpoint own) (past checkpoint other) then [] else past checkpoint other)
     ++ past checkpoint (take k own)
 
--- a forget below the merge timestamp
+-- a forget to below the merge timestamp
 abbrev pub IsBelow : ℕ → Entry → Type 0
 IsBelow merge (Commit ops) = ⊥
 IsBelow merge (Forget to) = to < merge
 
--- the first entry past the checkpoint that isn't the next one, or forgets below the merge timestamp there
+-- the first entry past the checkpoint whose number isn't the next one, or that forgets to below the merge timestamp
 pub record IsMisplaced (root : PlainRoot) (file : ℕ) (own other : List Numbered) (k : ℕ) : Type 0 where
   pub e : Numbered
   pub before : List Numbered
@@ -83,7 +83,7 @@ pub record IsMisplaced (root : PlainRoot) (file : ℕ) (own other : List Numbere
   pub breaks : (e.0 ≢ root.checkpoint + 1 + length before)
       ⊎ IsBelow (merge_after root.merge (map (λ d. d.1) before)) e.1
 
--- of the entries of two journals those of this one, and those of the other one
+-- the entries of this journal of two, and those of the other one
 abbrev pub own_of : ℕ → List Numbered → List Numbered → List Numbered
 own_of file entries_0 entries_1 = if file == 0 then entries_0 else entries_1
 
@@ -101,7 +101,7 @@ pub record BreaksTurn (bodies : Bodies) (root : PlainRoot) (file place : ℕ) : 
   pub misplaced : IsMisplaced root file (own_of file entries_0 entries_1) (other_of file entries_0 entries_1) k
   pub placed : place ≡ gate_of (bodies file) k
 
--- of these entries the first whose number isn't the one before it and 1
+-- the first of these entries whose number isn't its predecessor's plus one
 pub record IsApart (entries : List Numbered) (k : ℕ) : Type 0 where
   pub from : ℕ
   pub rises : RiseFrom from (take k entries)
@@ -112,8 +112,8 @@ pub record IsApart (entries : List Numbered) (k : ℕ) : Type 0 where
   pub inside : 1 ≤ k
   pub apart : e.0 ≢ d.0 + 1
 
--- past the checkpoint no entry is misplaced, but the numbers of a journal don't rise by one; the place is that of the
--- number, behind the gate, the length and the byte for the kind
+-- no entry past the checkpoint is misplaced, but the numbers of a journal don't rise by one; the place is that of the
+-- number, after the gate, the length and the kind
 pub record BreaksStep (bodies : Bodies) (root : PlainRoot) (file place : ℕ) : Type 0 where
   pub entries_0 : List Numbered
   pub entries_1 : List Numbered
@@ -122,20 +122,20 @@ pub record BreaksStep (bodies : Bodies) (root : PlainRoot) (file place : ℕ) : 
   pub first_journal : SpellEntries (bodies 0) entries_0
   pub second_journal : SpellEntries (bodies 1) entries_1
   pub in_order : RiseFrom (root.checkpoint + 1)
-      (in_turn (past root.checkpoint entries_0) (past root.checkpoint entries_1))
+      (by_first_number (past root.checkpoint entries_0) (past root.checkpoint entries_1))
   pub rules : AreEntries root.checkpoint root.merge
-      (map (λ e. e.1) (in_turn (past root.checkpoint entries_0) (past root.checkpoint entries_1)))
+      (map (λ e. e.1) (by_first_number (past root.checkpoint entries_0) (past root.checkpoint entries_1)))
   pub apart : IsApart (own_of file entries_0 entries_1) k
   pub first : file ≡ 1 → (n : ℕ) × RiseFrom n entries_0
   pub placed : place ≡ gate_of (bodies file) k + 10
 
--- the newest root, the root log in which it stands, and the place of its frame there
+-- the newest root, its root log, and the number of its frame there
 pub record IsFound (roots_0 roots_1 : List PlainRoot) (root : PlainRoot) (file k : ℕ) : Type 0 where
   pub newest : IsNewest (roots_0 ++ roots_1) root
   pub here : ((file ≡ 2) × (k ≡ length newest.before) × (k < length roots_0))
       ⊎ ((file ≡ 3) × (length roots_0 + k ≡ length newest.before))
 
--- behind all entries the merge timestamp is below the horizon; the place is that of the root's gate
+-- after all entries the merge timestamp is below the horizon; the place is that of the root's gate
 pub record IsBelowHorizon (bodies : Bodies) (root : PlainRoot) (file place : ℕ) : Type 0 where
   pub roots_0 : List PlainRoot
   pub roots_1 : List PlainRoot
@@ -149,17 +149,17 @@ pub record IsBelowHorizon (bodies : Bodies) (root : PlainRoot) (file place : ℕ
   pub below : merge_after root.merge told < root.horizon
   pub placed : place ≡ gate_of (bodies file) k
 
--- a root log isn't one, which shows at this place
+-- the bytes of a root log break a rule at this place
 abbrev pub RootLogBreaks : List ℕ → ℕ → Type 0
 RootLogBreaks bytes place =
     IsDamaged place bytes ⊎ ((bodies : List (List ℕ)) × HasFrames bodies bytes × AreBadRoots bodies place)
 
--- a journal isn't one by itself
+-- the bytes of a journal break a rule at this place
 abbrev pub JournalBreaks : List ℕ → ℕ → Type 0
 JournalBreaks bytes place =
     IsDamaged place bytes ⊎ ((bodies : List (List ℕ)) × HasFrames bodies bytes × AreBadEntries bodies place)
 
--- a log of roots, and one of entries
+-- the bytes of a valid root log, and of a valid journal
 abbrev pub IsRootLog : List ℕ → Type 0
 IsRootLog bytes = (bodies : List (List ℕ)) × (roots : List PlainRoot) × HasFrames bodies bytes × AreRoots bodies roots
 
@@ -167,19 +167,19 @@ abbrev pub IsEntryLog : List ℕ → Type 0
 IsEntryLog bytes =
     (bodies : List (List ℕ)) × (entries : List Numbered) × HasFrames bodies bytes × SpellEntries bodies entries
 
--- the journals are logs of entries, but don't fit together, or don't fit the root
+-- the journals break a rule together, or with the root
 abbrev pub DoNotFit : Bodies → PlainRoot → ℕ → ℕ → Type 0
 DoNotFit bodies root file place =
     BreaksTurn bodies root file place ⊎ (BreaksStep bodies root file place ⊎ IsBelowHorizon bodies root file place)
 
--- which journal breaks a rule, the first before the second, and both before what they are together
+-- a journal breaks a rule: the first, or else the second, or else both together
 abbrev pub JournalsBreak : Image → Bodies → PlainRoot → ℕ → ℕ → Type 0
 JournalsBreak image bodies root file place =
     ((file ≡ 0) × JournalBreaks (image 0) place)
     ⊎ (((file ≡ 1) × IsEntryLog (image 0) × JournalBreaks (image 1) place)
     ⊎ (HasBodies bodies image × DoNotFit bodies root file place))
 
--- behind root logs that tell a root, the journals break a rule
+-- the root logs tell a root, and the journals break a rule
 pub record AreBadJournals (image : Image) (file place : ℕ) : Type 0 where
   pub bodies : Bodies
   pub root : PlainRoot
@@ -188,11 +188,11 @@ pub record AreBadJournals (image : Image) (file place : ℕ) : Type 0 where
   pub newest : TellsRoot bodies root
   pub breaks : JournalsBreak image bodies root file place
 
--- a root log breaks a rule, the first before the second
+-- a root log breaks a rule: the first, or else the second
 abbrev pub AreBadRootLogs : Image → ℕ → ℕ → Type 0
 AreBadRootLogs image file place =
     ((file ≡ 2) × RootLogBreaks (image 2) place) ⊎ ((file ≡ 3) × IsRootLog (image 2) × RootLogBreaks (image 3) place)
 
--- this log of the image breaks a rule at this place, the root logs before the journals
+-- this log of the image breaks a rule at this place: a root log, or else a journal
 abbrev pub Damages : Image → ℕ → ℕ → Type 0
 Damages image file place = AreBadRootLogs image file place ⊎ AreBadJournals image file place

@@ -14,11 +14,11 @@ use Rattle.journal_meaning.specs.Shown.{Shows, Tells, TellsAt, first_root, only_
 abbrev pub no_bodies : Bodies
 no_bodies file = []
 
--- an image shows one base at most
+-- an image shows at most one base
 abbrev pub OneBaseIsShown : Type 0
 OneBaseIsShown = (image : Image) (base other : Base) → Shows image base → Shows image other → base ≡ other
 
--- what is shown is a base
+-- an image shows nothing but bases
 abbrev pub WhatIsShownIsABase : Type 0
 WhatIsShownIsABase = (image : Image) (base : Base) → Shows image base → IsBase base
 
@@ -32,7 +32,7 @@ abbrev pub DamageIsOne : Type 0
 DamageIsOne = (image : Image) (file other place to : ℕ) → Damages image file place → Damages image other to →
     (file ≡ other) × (place ≡ to)
 
--- without a frame in the root logs nothing is shown
+-- an image without a frame in the root logs shows nothing
 abbrev pub NothingIsShown : Type 0
 NothingIsShown = (bodies : Bodies) (image : Image) (base : Base) →
     HasBodies bodies image → bodies 2 ≡ [] → bodies 3 ≡ [] → Shows image base → ⊥
@@ -42,7 +42,7 @@ abbrev pub FirstRootIsTold : Type 0
 FirstRootIsTold = (settings : Settings) (body : List ℕ) (file : ℕ) → SpellsRoot body (first_root settings) → file ≤ 1 →
     TellsAt (only_body 2 body) file (record { base = empty_base (settings_of settings); entries = [] })
 
--- an entry that may follow goes on the history where its body goes on the current journal
+-- appending the body of a valid entry to the current journal appends the entry to the history
 abbrev pub AnotherEntryIsTold : Type 0
 AnotherEntryIsTold = (bodies : Bodies) (file : ℕ) (h : History) (body : List ℕ) (entry : Entry) →
     TellsAt bodies file h → SpellsEntry body (front h + 1) entry → AreEntries (front h) (merge h) (entry ∷ []) →
@@ -53,24 +53,24 @@ abbrev pub OldEntriesDoNotCount : Type 0
 OldEntriesDoNotCount = (bodies : Bodies) (h : History) → Tells bodies h → h.entries ≡ [] →
     TellsAt (without_first bodies) 0 h
 
--- an image that may have one more entry shows the history that is told, or the one with that entry
+-- an image that may have one more entry shows the history with or without it
 abbrev pub KeptIsShown : Type 0
 KeptIsShown = (kept : Bodies) (file : ℕ) (h : History) (body : List ℕ) (entry : Entry) (image : Image) →
     TellsAt kept file h → merge h ≤ front h → SpellsEntry body (front h + 1) entry →
     AreEntries (front h) (merge h) (entry ∷ []) → MayHaveBodies kept (only_body file body) image →
     Shows image (shown h) ⊎ Shows image (shown (with_entry h entry))
 
--- an image that has the frames that tell a history shows what a reader sees at its front
+-- an image whose frames tell a history shows what a reader sees at its front
 abbrev pub ToldIsShown : Type 0
 ToldIsShown = (kept : Bodies) (h : History) (image : Image) →
     Tells kept h → merge h ≤ front h → MayHaveBodies kept no_bodies image → Shows image (shown h)
 
--- an entry goes on two histories alike where a reader sees the same of both
+-- if a reader sees the same of two histories, it does so after one more entry
 abbrev pub EntriesGoOnAlike : Type 0
 EntriesGoOnAlike = (h g : History) (entry : Entry) → merge h ≤ front h → shown g ≡ shown h →
     AreEntries (front h) (merge h) (entry ∷ []) → shown (with_entry g entry) ≡ shown (with_entry h entry)
 
--- a history that begins with what is shown shows it
+-- a history that begins with what an image shows shows it too
 abbrev pub ShownBegins : Type 0
 ShownBegins = (h : History) → IsBase (shown h) → shown (record { base = shown h; entries = [] }) ≡ shown h
 

@@ -3,3 +3,4 @@ pub mod Shown
 pub mod Damages
 pub mod Current
 pub mod Laws
+pub mod Directories

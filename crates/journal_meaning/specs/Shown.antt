@@ -39,11 +39,11 @@ pub record Shows (image : Image) (base : Base) : Type 0 where
   pub ordered : merge history ≤ front history
   pub shown : base ≡ shown history
 
--- one more body behind those of a log
+-- one more body at the end of a log
 abbrev pub with_body : Bodies → ℕ → List ℕ → Bodies
 with_body bodies file body other = if other == file then bodies other ++ body ∷ [] else bodies other
 
--- none but this body, in this log
+-- this body in this log, and no other
 abbrev pub only_body : ℕ → List ℕ → Bodies
 only_body file body other = if other == file then body ∷ [] else []
 
@@ -55,8 +55,8 @@ without_first bodies file = if file == 0 then [] else bodies file
 abbrev pub with_entry : History → Entry → History
 with_entry h entry = record h { entries = h.entries ++ entry ∷ [] }
 
--- behind these entries of a journal the next one may stand: past the checkpoint the other journal's stand before them,
--- up to the front; and there are none at all, or they end with the one at the front
+-- a journal may take the next entry: past the checkpoint its entries follow those of the other journal up to the front,
+-- and it has no entry, or its last one is at the front
 pub record TakesNext (checkpoint front : ℕ) (own other : List Numbered) : Type 0 where
   pub rises : RiseFrom (checkpoint + 1) (past checkpoint other ++ past checkpoint own)
   pub reaches : front ≡ checkpoint + length (past checkpoint other) + length (past checkpoint own)

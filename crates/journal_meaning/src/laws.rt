@@ -1,30 +1,31 @@
-// Laws of what logs show, each as the contract of a function that does nothing.
+//! Laws of what logs show, each the contract of a function that does nothing.
+
 ghost use Rattle.journal_meaning.specs.Laws.{OneBaseIsShown, WhatIsShownIsABase, NothingIsShown, FirstRootIsTold};
 ghost use Rattle.journal_meaning.specs.Laws.{DamageIsOne, WhatIsShownIsNotDamaged};
 ghost use Rattle.journal_meaning.specs.Laws.{AnotherEntryIsTold, OldEntriesDoNotCount, KeptIsShown, ToldIsShown};
 ghost use Rattle.journal_meaning.specs.Laws.{EntriesGoOnAlike, ShownBegins, FramesAreShort};
 
-/// An image shows one base at most.
+/// An image shows at most one base.
 pub fn one_base_is_shown()
     ensures { OneBaseIsShown }
 {}
 
-/// What is shown is a base.
+/// An image shows nothing but bases.
 pub fn what_is_shown_is_a_base()
     ensures { WhatIsShownIsABase }
 {}
 
-/// What shows a base isn't damaged.
+/// An image that shows a base isn't damaged.
 pub fn what_is_shown_is_not_damaged()
     ensures { WhatIsShownIsNotDamaged }
 {}
 
-/// Damage has one log and one place.
+/// An image is damaged in one log, at one place.
 pub fn damage_is_one()
     ensures { DamageIsOne }
 {}
 
-/// Without a root nothing is shown.
+/// An image without a root shows nothing.
 pub fn nothing_is_shown()
     ensures { NothingIsShown }
 {}
@@ -34,37 +35,37 @@ pub fn first_root_is_told()
     ensures { FirstRootIsTold }
 {}
 
-/// An entry that may follow goes on the history where its body goes on the current journal.
+/// Appending the body of a valid entry to the current journal appends the entry to the history.
 pub fn another_entry_is_told()
     ensures { AnotherEntryIsTold }
 {}
 
-/// Entries up to the checkpoint may be taken away.
+/// Removing entries up to the checkpoint changes nothing.
 pub fn old_entries_do_not_count()
     ensures { OldEntriesDoNotCount }
 {}
 
-/// Where an entry may have been left, an image shows the history without it or with it.
+/// An image that may have one more entry shows the history with or without it.
 pub fn kept_is_shown()
     ensures { KeptIsShown }
 {}
 
-/// An image with the frames that tell a history shows what a reader sees at its front.
+/// An image whose frames tell a history shows what a reader sees at its front.
 pub fn told_is_shown()
     ensures { ToldIsShown }
 {}
 
-/// An entry goes on two histories alike where a reader sees the same of both.
+/// If a reader sees the same of two histories, it does so after one more entry.
 pub fn entries_go_on_alike()
     ensures { EntriesGoOnAlike }
 {}
 
-/// A history that begins with what is shown shows it.
+/// A history that begins with what an image shows shows it too.
 pub fn shown_begins()
     ensures { ShownBegins }
 {}
 
-/// The frame of an entry is short.
+/// The frame of an entry has fewer than 2^31 bytes.
 pub fn frames_are_short()
     ensures { FramesAreShort }
 {}

@@ -3,14 +3,15 @@ use Rattle.std.proofs.Common.{◌≡◌, ◌<◌, ℕ, zero, suc, List, [], ◌�
 use Rattle.std.specs.List.{AllZip}
 use Rattle.std.proofs.lemmas.List.Elements.{All-push}
 use Rattle.std.proofs.lemmas.Option.{get_or_from_slice_get, none-some, same_Some, slice_get_within}
+use Rattle.disk_model.specs.declared.file_name.FileName.TheVariants.{Log, Sealed}
 use Rattle.journal_bodies.specs.Entries.{SpellsEntry}
 use Rattle.journal_bodies.specs.Roots.{PlainRoot, SpellsRoot}
 use Rattle.journal_meaning.specs.Bodies.{AreRoots, IsWithoutFiles, Numbered, SpellEntries}
 use Rattle.journal_meaning.specs.Damages.{HasBadBody, IsEntryBody, IsRootBody, gate_of}
 use Rattle.journal_reading.specs.OneBody.{BreaksAt}
 use Rattle.journal_reading.specs.Reading.{IsUnread}
-use Rattle.journal_reading.specs.declared.unread.Unread.{Unread}
-use Rattle.journal_reading.specs.declared.unread.Unread.TheVariants.{Damaged, Memory}
+use Rattle.journal_reading.specs.declared.unread.LogBad.{LogBad}
+use Rattle.journal_reading.specs.declared.unread.LogBad.TheVariants.{Damaged, Fault, Memory}
 
 -- ---- two lists side by side
 
@@ -71,11 +72,14 @@ entry_before bodies k es z j body low here =
 -- ---- where a rule is broken
 
 -- what breaks one rule breaks another one
-pub unread : (P Q : ℕ → Type 0) → ((place : ℕ) → P place → Q place) → (why : Unread) → IsUnread P why → IsUnread Q why
-unread P Q f (Damaged place) u = f place u
-unread P Q f Memory u = tt
+pub unread : (file : ℕ) (P Q : ℕ → Type 0) → ((place : ℕ) → P place → Q place) → (why : LogBad) → IsUnread file P why
+    → IsUnread file Q why
+unread file P Q f (Damaged (Log other) place) u = (u.0, f place u.1)
+unread file P Q f (Damaged (Sealed number) place) u = absurd u
+unread file P Q f Fault u = absurd u
+unread file P Q f Memory u = tt
 
--- the first body that doesn't fit
+-- the first invalid body
 pub bad_body : (fits : List ℕ → Type 0) (breaks : List ℕ → ℕ → Type 0) (bodies : List (List ℕ)) (k gate : ℕ)
     (body : List ℕ) → slice_get bodies k ≡ Some body → gate ≡ gate_of bodies k
     → ((j : ℕ) (b : List ℕ) → j < k → slice_get bodies j ≡ Some b → fits b) → (place : ℕ)

@@ -1,4 +1,4 @@
--- Where the gates of frames stand.
+-- The places of the gates of frames.
 use Rattle.std.proofs.Common.{◌≡◌, ◌∙◌, ◌≤◌, ◌<◌, ◌+◌, ℕ, List, [], ◌∷◌, ◌++◌, Option, Some, option_map, refl, sym, ap, length, get_or, take, drop, slice_get, length-append, arith}
 use Rattle.std.specs.declared.alloc.Global.{Global}
 use Rattle.std.specs.Prelude.{Vec}
@@ -23,7 +23,7 @@ gate_more bodies k body here =
     ap (λ (l : List (List ℕ)). length (framed l)) (bodies_more bodies k body here)
     ∙ length-framed-push (take k bodies) body
 
--- no gate stands behind the last frame
+-- no gate is behind the last frame
 pub gate_within : (bodies : List (List ℕ)) (k : ℕ) → gate_of bodies k ≤ length (framed bodies)
 gate_within bodies k =
     omega (

@@ -11,7 +11,7 @@ use Rattle.journal_meaning.specs.Damages.{other_of, own_of}
 use Rattle.journal_reading.specs.Reading.{NotReplayed, Replays}
 use Rattle.journal_reading.specs.Walking.{ComesLast, IsKept, ReplaysBoth, StopsIn}
 use Rattle.journal_reading.specs.declared.replay.Replay.{Replay}
-use Rattle.journal_reading.specs.declared.unread.Misplaced.{Misplaced}
+use Rattle.journal_reading.specs.declared.unread.ReplayBad.{ReplayBad}
 use Rattle.journal_reading.proofs.ApartLemmas.{Rise}
 use Rattle.journal_reading.proofs.NumberLemmas.{reaches, rises_behind}
 use Rattle.journal_reading.proofs.TurnLemmas.{not_replayed}
@@ -78,7 +78,7 @@ replays_both root entries_0 entries_1 file replay last t = record {
 }
 
 -- both journals are replayed, or an entry stops their reading
-pub replays_or_not : (root : PlainRoot) (entries_0 entries_1 : List Numbered) (file : ℕ) (r : Result Replay Misplaced)
+pub replays_or_not : (root : PlainRoot) (entries_0 entries_1 : List Numbered) (file : ℕ) (r : Result Replay ReplayBad)
     → ComesLast root.checkpoint entries_0 entries_1 file
     → MatchResult r (ReplaysBoth root file (other_of file entries_0 entries_1) (own_of file entries_0 entries_1))
     (StopsIn root file (other_of file entries_0 entries_1) (own_of file entries_0 entries_1))

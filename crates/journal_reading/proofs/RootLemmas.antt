@@ -97,7 +97,7 @@ removed_are_named body r at s none some is =
 pub removed_within : (body : List ℕ) (r : PlainRoot) → SpellsRoot body r → 4 + 8 * length r.removed ≤ length body
 removed_within body r s = omega (arith, length-root r, ap length s.spelled)
 
--- what is told of the files to be removed, where there are no parts
+-- the files to be removed, where there are no parts
 pub then_removed : (body : List ℕ) (r : PlainRoot) (empty : Bool) (at : ℕ) (found : Option ℕ) → SpellsRoot body r
     → r.parts ≡ [] → (IsTrue empty ↔ (r.removed ≡ [])) → at + (4 + 8 * length r.removed) ≡ length body
     → found ≡ then_some (not empty) at

@@ -7,9 +7,9 @@ use Rattle.journal_meaning.specs.Bodies.{Numbered, past}
 use Rattle.journal_meaning.specs.Damages.{IsBelow, IsMisplaced, other_of, own_of}
 use Rattle.journal_reading.specs.Reading.{NotReplayed}
 use Rattle.journal_reading.specs.Walking.{ComesLast, Reads, StopsAt, StopsIn, ahead_of, start_of}
-use Rattle.journal_reading.specs.declared.unread.Misplaced.{Misplaced}
-use Rattle.journal_reading.specs.declared.unread.Misplaced.TheVariants as misplaced
-use Rattle.journal_reading.specs.declared.walk.Front.{Front}
+use Rattle.journal_reading.specs.declared.unread.ReplayBad.{ReplayBad}
+use Rattle.journal_reading.specs.declared.unread.ReplayBad.TheVariants as misplaced
+use Rattle.journal_reading.specs.declared.walk.ReplayPoint.{ReplayPoint}
 use Rattle.journal_reading.proofs.NumberLemmas.{past_early, past_late}
 use Rattle.journal_reading.proofs.WalkLemmas.{Reads-append, Reads-none}
 
@@ -39,7 +39,7 @@ late_some c (x ∷ es) (suc k) e h late =
     ⊎_elim (λ (high : c < x.0). cons_some x (past c es) (sym (past_late c x es high) ∙ none))
     (λ (low : x.0 ≤ c). rest (sym (past_early c x es low) ∙ none)) (cases_lt c x.0)
 
-misplaced_at : (root : PlainRoot) (file : ℕ) (own other rest : List Numbered) (front : Front) (k : ℕ)
+misplaced_at : (root : PlainRoot) (file : ℕ) (own other rest : List Numbered) (front : ReplayPoint) (k : ℕ)
     → ahead_of file (past root.checkpoint own) (past root.checkpoint other) ≡ rest
     → Reads (start_of root) rest front → StopsAt root.checkpoint front own k → IsMisplaced root file own other k
 misplaced_at root file own other rest front k is r s =
@@ -70,7 +70,7 @@ earlier_misplaced root file own other k first s =
     misplaced_at root file own other [] (start_of root) k (first (late_some root.checkpoint own k s.e s.here s.late))
     (Reads-none (start_of root)) s
 
-pub not_replayed : (root : PlainRoot) (entries_0 entries_1 : List Numbered) (file : ℕ) (why : Misplaced)
+pub not_replayed : (root : PlainRoot) (entries_0 entries_1 : List Numbered) (file : ℕ) (why : ReplayBad)
     → ComesLast root.checkpoint entries_0 entries_1 file
     → StopsIn root file (other_of file entries_0 entries_1) (own_of file entries_0 entries_1) why
     → NotReplayed root entries_0 entries_1 why

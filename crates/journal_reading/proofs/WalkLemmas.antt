@@ -6,7 +6,7 @@ use Rattle.doc_model.specs.declared.entry.Entry.TheVariants.{Commit, Forget}
 use Rattle.doc_meaning.specs.History.{AreEntries, merge_after}
 use Rattle.journal_meaning.specs.Bodies.{Numbered, past}
 use Rattle.journal_reading.specs.Walking.{Reads}
-use Rattle.journal_reading.specs.declared.walk.Front.{Front}
+use Rattle.journal_reading.specs.declared.walk.ReplayPoint.{ReplayPoint}
 use Rattle.journal_reading.proofs.NumberLemmas.{past_more, past_same, rises-append}
 
 merge_after-append : (m : ℕ) (xs ys : List Entry) → merge_after m (xs ++ ys) ≡ merge_after (merge_after m xs) ys
@@ -22,10 +22,10 @@ AreEntries-append f g m (Commit ops ∷ xs) ys a e b =
 AreEntries-append f g m (Forget to ∷ xs) ys a e b =
     (a.0, a.1, AreEntries-append (f + 1) g to xs ys a.2 (omega (arith, e)) b)
 
-pub Reads-none : (at : Front) → Reads at [] at
+pub Reads-none : (at : ReplayPoint) → Reads at [] at
 Reads-none at = record { rises = refl; rules = tt; reaches = omega arith; merges = refl }
 
-pub Reads-append : (at mid to : Front) (xs ys : List Numbered) → Reads at xs mid → Reads mid ys to
+pub Reads-append : (at mid to : ReplayPoint) (xs ys : List Numbered) → Reads at xs mid → Reads mid ys to
     → Reads at (xs ++ ys) to
 Reads-append at mid to xs ys r s =
     let both : map (λ (e : Numbered). e.1) (xs ++ ys) ≡ map (λ e. e.1) xs ++ map (λ e. e.1) ys =
@@ -47,7 +47,7 @@ Reads-append at mid to xs ys r s =
     }
 
 -- one entry more, past the checkpoint
-pub Reads-more : (c : ℕ) (at mid to : Front) (es : List Numbered) (k : ℕ) (e : Numbered) → k < length es
+pub Reads-more : (c : ℕ) (at mid to : ReplayPoint) (es : List Numbered) (k : ℕ) (e : Numbered) → k < length es
     → e ≡ get_or es k e → c < e.0 → Reads at (past c (take k es)) mid → Reads mid (e ∷ []) to
     → Reads at (past c (take (k + 1) es)) to
 Reads-more c at mid to es k e within here late r s =
@@ -55,7 +55,7 @@ Reads-more c at mid to es k e within here late r s =
     (Reads-append at mid to (past c (take k es)) (e ∷ []) r s)
 
 -- one entry more, up to the checkpoint
-pub Reads-same : (c : ℕ) (at mid : Front) (es : List Numbered) (k : ℕ) (e : Numbered) → k < length es
+pub Reads-same : (c : ℕ) (at mid : ReplayPoint) (es : List Numbered) (k : ℕ) (e : Numbered) → k < length es
     → e ≡ get_or es k e → e.0 ≤ c → Reads at (past c (take k es)) mid → Reads at (past c (take (k + 1) es)) mid
 Reads-same c at mid es k e within here early r =
     subst (λ (l : List Numbered). Reads at l mid) (sym (past_same c es k e within here early)) r

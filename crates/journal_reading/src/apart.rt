@@ -4,8 +4,8 @@ ghost use Rattle.journal_meaning.specs.Damages.{IsApart};
 
 use doc_model::Entry;
 
-/// The place of the first entry whose number isn't the one before it and 1. It takes time in the number of entries.
-pub fn first_apart(entries: &[(u64, Entry)]) -> Option<usize>
+/// The index of the first entry whose number isn't its predecessor's plus one. Takes time in the number of entries.
+pub fn first_gap(entries: &[(u64, Entry)]) -> Option<usize>
     ensures { MatchOption result ((n : ℕ) × RiseFrom n entries.now) (IsApart entries.now) }
 {
     for k in 1..entries.len() {
@@ -16,7 +16,7 @@ pub fn first_apart(entries: &[(u64, Entry)]) -> Option<usize>
     None
 }
 
-/// Whether a number is another one and 1.
+/// Whether a number is its predecessor plus one.
 pub fn is_next(before: u64, number: u64) -> bool
     ensures { IsTrue result ↔ (number ≡ before + 1) }
 {

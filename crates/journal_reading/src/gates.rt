@@ -3,10 +3,10 @@ ghost use Rattle.frame_log.specs.Frames.{framed};
 ghost use Rattle.journal_meaning.specs.Damages.{gate_of};
 ghost use Rattle.journal_reading.specs.Reading.{items_of};
 
-/// The bytes of a frame beside its body: its gate, and the length of the body.
+/// How many bytes a frame has before its body: its gate, and the length of the body.
 pub const HEAD: u64 = 9;
 
-/// Where the gate of the frame with this body stands, by its place in the list. It takes time in proportion to that.
+/// The place of the gate of the frame with this number. Takes time in that number.
 pub fn gate_of(bodies: &[Vec<u8>], frame: usize) -> u64
     requires short { length (framed (items_of bodies.now)) < 2 ^ 62 }
     requires frame { frame ≤ length bodies.now }

@@ -1,4 +1,4 @@
-//! What the bodies of the logs' frames tell: roots, and entries past the newest root's checkpoint.
+//! Reads the bodies of the logs' frames: roots, and the entries past the newest root's checkpoint.
 #![tactic(auto)]
 
 mod apart;
@@ -10,10 +10,10 @@ mod roots;
 mod unread;
 mod walk;
 
-pub use apart::first_apart;
+pub use apart::first_gap;
 pub use entries::entries_of;
 pub use gates::gate_of;
 pub use newest::{Newest, newest_root};
 pub use replay::{Replay, replay_journals};
 pub use roots::roots_of;
-pub use unread::{Misplaced, Unread};
+pub use unread::{LogBad, ReplayBad};

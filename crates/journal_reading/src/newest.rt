@@ -4,7 +4,7 @@ ghost use Rattle.journal_meaning.specs.Damages.{IsFound};
 
 use journal_bodies::Root;
 
-/// The newest root, its log, and the place of its frame there, counted from 0.
+/// The newest root, its log, and the number of its frame there, counted from 0.
 #[derive(Debug, Drop)]
 pub struct Newest {
     pub file: u8,
@@ -12,7 +12,7 @@ pub struct Newest {
     pub root: Root,
 }
 
-/// The root with the greatest number in logs 2 and 3; of equal ones the first. It takes time in their number.
+/// The root of logs 2 and 3 with the greatest number, the first of equal ones. Takes time in the number of roots.
 pub fn newest_root(roots_0: Vec<Root>, roots_1: Vec<Root>) -> Option<Newest>
     ensures { MatchOption result ((roots_0.items ≡ []) × (roots_1.items ≡ []))
         (λ found. IsFound roots_0.items roots_1.items found.root found.file found.frame) }
@@ -26,7 +26,7 @@ pub fn newest_root(roots_0: Vec<Root>, roots_1: Vec<Root>) -> Option<Newest>
     }
 }
 
-/// The root with the greatest number in a log, the first of equal ones.
+/// The root of one log with the greatest number, the first of equal ones.
 fn newest_of(file: u8, mut roots: Vec<Root>) -> Option<Newest>
     ensures { MatchOption result (roots.items ≡ []) (λ found. (found.file ≡ file)
         × (slice_get roots.items found.frame ≡ Some found.root)
@@ -40,7 +40,7 @@ fn newest_of(file: u8, mut roots: Vec<Root>) -> Option<Newest>
     })
 }
 
-/// The place of the first root with the greatest number.
+/// The index of the first root with the greatest number.
 fn greatest(roots: &[Root]) -> Option<usize>
     ensures { MatchOption result (roots.now ≡ [])
         (λ frame. IsFirstMaxByKey (λ r. r.number) roots.now (length roots.now) frame) }

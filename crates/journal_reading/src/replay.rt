@@ -5,38 +5,38 @@ ghost use Rattle.journal_meaning.specs.Current.{last_of};
 ghost use Rattle.journal_reading.specs.Reading.{NotReplayed, Replays};
 ghost use Rattle.journal_reading.specs.Walking.{ComesLast, IsKept, IsStop, Reads, ReplaysBoth, StopsAt, StopsIn};
 
-use crate::unread::Misplaced;
-use crate::walk::{Front, walk};
+use crate::unread::ReplayBad;
+use crate::walk::{ReplayPoint, walk};
 use doc_model::Entry;
 use journal_bodies::Root;
 use std::alloc::{AllocError, Global};
 
-/// What two journals hold past a root's checkpoint.
+/// What two journals have past a root's checkpoint.
 #[derive(Debug, Drop)]
 pub struct Replay {
     /// The entries past the checkpoint, in order.
     pub entries: Vec<(u64, Entry)>,
-    /// The merge timestamp behind them.
+    /// The merge timestamp after them.
     pub merge: u64,
-    /// The journal to which the next entry goes, where the numbers of both rise by one.
+    /// The journal that takes the next entry, if the numbers of both rise by one.
     pub current: u8,
-    /// Whether that is the first one, which must be reset before: no entry is past the checkpoint, and both have some.
+    /// Whether the first journal must be reset before: no entry is past the checkpoint, and neither journal is empty.
     pub resets_first: bool,
-    /// The last entry of the other journal, where it has some past the checkpoint.
+    /// The last entry of the other journal, if it has one past the checkpoint.
     pub frozen: Option<u64>,
 }
 
-/// The entries of two journals past a root's checkpoint, one journal after the other. They must be numbered without a
-/// gap from the checkpoint on, and no forget may be of a timestamp below the merge timestamp before it. Those up to the
-/// checkpoint are skipped wherever they stand.
+/// Replays the entries of two journals past a root's checkpoint, one journal after the other. Their numbers must rise
+/// by one from the checkpoint on, and no forget may be to below the merge timestamp before it. Entries up to the
+/// checkpoint are skipped wherever they are.
 ///
-/// It takes time in their number, and memory for one list of them at the most.
+/// Takes time in the number of entries, and memory for at most one list of them.
 pub fn replay_journals(
     alloc: Global,
     root: &Root,
     entries_0: Vec<(u64, Entry)>,
     entries_1: Vec<(u64, Entry)>,
-) -> Result<Replay, Misplaced>
+) -> Result<Replay, ReplayBad>
     requires first { (bodies : List (List ℕ)) × SpellEntries bodies entries_0.items }
     requires second { (bodies : List (List ℕ)) × SpellEntries bodies entries_1.items }
     ensures { MatchResult result (Replays root.now entries_0.items entries_1.items)
@@ -95,13 +95,13 @@ fn last_past(checkpoint: u64, entries: &[(u64, Entry)]) -> Option<u64>
     last
 }
 
-/// What an earlier and a later journal hold, of which the later one has the newest entries.
+/// Replays an earlier and a later journal. The later one has the newest entries.
 fn replay_both(
     root: &Root,
     current: u8,
     earlier: Vec<(u64, Entry)>,
     later: Vec<(u64, Entry)>,
-) -> Result<Replay, Misplaced>
+) -> Result<Replay, ReplayBad>
     requires journal { current ≤ 1 }
     requires earlier_kept { All IsKept earlier.items }
     requires later_kept { All IsKept later.items }
@@ -109,7 +109,7 @@ fn replay_both(
         (StopsIn root.now current earlier.items later.items) }
 {
     let checkpoint = root.checkpoint;
-    let start = Front {
+    let start = ReplayPoint {
         number: checkpoint,
         merge: root.merge,
     };
@@ -125,24 +125,24 @@ fn replay_both(
     })
 }
 
-/// The front behind the entries of a journal past a checkpoint.
+/// The point after the entries of a journal past a checkpoint.
 fn walk_in(
     file: u8,
     checkpoint: u64,
-    from: Front,
+    from: ReplayPoint,
     entries: &[(u64, Entry)],
-) -> Result<Front, Misplaced>
+) -> Result<ReplayPoint, ReplayBad>
     requires { All IsKept entries.now }
     ensures { MatchResult result (Reads from (past checkpoint entries.now))
         (IsStop file (StopsAt checkpoint from entries.now)) }
 {
     match walk(checkpoint, from, entries) {
         Ok(front) => Ok(front),
-        Err(frame) => Err(Misplaced::Entry { file, frame }),
+        Err(frame) => Err(ReplayBad::Entry { file, frame }),
     }
 }
 
-/// The entries past a checkpoint, those of the later journal behind the others.
+/// The entries past a checkpoint: those of the earlier journal, then those of the later one.
 fn joined(
     checkpoint: u64,
     mut earlier: Vec<(u64, Entry)>,
@@ -156,7 +156,7 @@ fn joined(
     Ok(earlier)
 }
 
-/// What two journals hold that have no entry past the checkpoint.
+/// Replays two journals without entries past the checkpoint.
 fn start_anew(alloc: Global, merge: u64, empty_0: bool, empty_1: bool) -> Replay
     ensures entries { result.entries.items ≡ [] }
     ensures merge { result.merge ≡ merge }

@@ -7,55 +7,53 @@ ghost use Rattle.journal_reading.specs.OneBody.{BreaksAt};
 ghost use Rattle.journal_reading.specs.Reading.{IsUnread, items_of};
 
 use crate::gates::{HEAD, frame_len};
-use crate::unread::{Unread, unfit};
+use crate::unread::{LogBad, body_bad};
 use journal_bodies::{Root, read_root};
 use std::alloc::Global;
 
-/// The roots that the bodies of a root log spell. A root that names files is refused at their count, so far.
+/// Decodes the bodies of a root log. A root that names files is invalid at their count, so far.
 ///
-/// It takes time n log n in the bytes, and memory for the roots.
-pub fn roots_of(alloc: Global, bodies: &[Vec<u8>]) -> Result<Vec<Root>, Unread>
+/// Takes time n log n in the bytes, and memory for the roots. Never returns `Fault`.
+pub fn roots_of(alloc: Global, file: u8, bodies: &[Vec<u8>]) -> Result<Vec<Root>, LogBad>
     requires { length (framed (items_of bodies.now)) < 2 ^ 62 }
     ensures { MatchResult result (λ roots. AreRoots (items_of bodies.now) roots.items)
-        (IsUnread (AreBadRoots (items_of bodies.now))) }
+        (IsUnread file (AreBadRoots (items_of bodies.now))) }
 {
     let mut roots = Vec::new(alloc);
     let mut gate = 0;
     for body in bodies {
-        roots.push(root_at(alloc, gate, body)?)?;
+        roots.push(root_at(alloc, file, gate, body)?)?;
         gate += frame_len(body);
     }
     Ok(roots)
 }
 
-/// The root that the body of the frame at this gate spells.
-fn root_at(alloc: Global, gate: u64, body: &[u8]) -> Result<Root, Unread>
+/// Decodes the body of the frame at this gate.
+fn root_at(alloc: Global, file: u8, gate: u64, body: &[u8]) -> Result<Root, LogBad>
     requires { gate + 9 + length body.now < 2 ^ 62 }
     ensures { MatchResult result (λ root. SpellsRoot body.now root × IsWithoutFiles root)
-        (IsUnread (BreaksAt IsBadRoot gate body.now)) }
+        (IsUnread file (BreaksAt IsBadRoot gate body.now)) }
 {
     match read_root(alloc, body) {
-        Ok(root) => without_files(gate, body, root),
-        Err(why) => Err(unfit(gate, body.len(), why)),
+        Ok(root) => without_files(file, gate, body, root),
+        Err(why) => Err(body_bad(file, gate, body.len(), why)),
     }
 }
 
-/// The root, if it names no files.
-fn without_files(gate: u64, body: &[u8], root: Root) -> Result<Root, Unread>
+/// Returns the root if it names no files.
+fn without_files(file: u8, gate: u64, body: &[u8], root: Root) -> Result<Root, LogBad>
     requires room { gate + 9 + length body.now < 2 ^ 62 }
     requires spelled { SpellsRoot body.now root }
     ensures { MatchResult result (λ same. (same ≡ root) × IsWithoutFiles root)
-        (IsUnread (BreaksAt IsBadRoot gate body.now)) }
+        (IsUnread file (BreaksAt IsBadRoot gate body.now)) }
 {
     match files_place(&root, body) {
-        Some(at) => Err(Unread::Damaged {
-            place: gate + HEAD + at,
-        }),
+        Some(at) => Err(LogBad::at(file, gate + HEAD + at)),
         None => Ok(root),
     }
 }
 
-/// Where the count of the first files that a root names stands in its body.
+/// The place of the count of the first files that a root names, in its body.
 fn files_place(root: &Root, body: &[u8]) -> Option<u64>
     requires short { length body.now < 2 ^ 62 }
     requires spelled { SpellsRoot body.now root.now }
@@ -68,7 +66,7 @@ fn files_place(root: &Root, body: &[u8]) -> Option<u64>
     (!root.removed.is_empty()).then_some(removed)
 }
 
-/// How many bytes a list of a body takes, by those of an item.
+/// How many bytes a list of `count` items of `item` bytes takes.
 fn list_len(item: u64, count: usize) -> u64
     requires { item * count < 2 ^ 62 }
     ensures { result ≡ 4 + item * count }

@@ -1,62 +1,82 @@
-//! Why the bodies of logs aren't read.
+//! Why logs weren't read.
 
-ghost use Rattle.std.specs.Prelude.{◌+◌, ◌<◌, ◌^◌};
-ghost use Rattle.journal_bodies.specs.Answers.{IsPlaced};
+ghost use Rattle.std.specs.Prelude.{◌≡◌, ◌+◌, ◌<◌, ◌^◌};
+ghost use Rattle.docs_format.specs.Answers.{IsPlaced};
 ghost use Rattle.journal_reading.specs.OneBody.{TellsBad};
 
 use crate::gates::HEAD;
+use disk_model::FileName;
 use journal_bodies::BodyBad;
 use std::alloc::{AllocError, AllocFailed};
+use thiserror::Error;
 
-/// Why the bodies of one log weren't read.
-#[derive(Clone, Copy, Debug, PartialEq, Eq)]
-pub enum Unread {
-    /// They break a rule at this place of the log.
-    Damaged { place: u64 },
+/// Why a log wasn't read.
+#[derive(Clone, Copy, Debug, PartialEq, Eq, Error)]
+pub enum LogBad {
+    /// The bytes of this log break a rule at this place.
+    #[error("{file:?} breaks a rule at {place}")]
+    Damaged { file: FileName, place: u64 },
+    /// The disk failed.
+    #[error("the disk failed")]
+    Fault,
+    #[error("out of memory")]
     Memory,
 }
 
-impl<T: Drop> From<AllocFailed<T>> for Unread {
-    ghost use Rattle.std.specs.Prelude.{◌≡◌};
-    ghost use Rattle.journal_reading.specs.declared.unread.Unread.TheVariants.{Memory};
+impl LogBad {
+    ghost use Rattle.disk_model.specs.declared.file_name.FileName.TheVariants.{Log};
+    ghost use Rattle.journal_reading.specs.declared.unread.LogBad.TheVariants.{Damaged};
 
-    ghost from_gives = { λ _ unread. unread ≡ Memory };
-
-    fn from(_: AllocFailed<T>) -> Unread {
-        Unread::Memory
+    /// The bytes of this log break a rule at this place.
+    pub fn at(file: u8, place: u64) -> LogBad
+        ensures { result ≡ Damaged (Log file) place }
+    {
+        LogBad::Damaged {
+            file: FileName::Log(file),
+            place,
+        }
     }
 }
 
-/// Why the body of the frame at this gate wasn't read.
-pub fn unfit(gate: u64, len: usize, why: BodyBad) -> Unread
+impl<T: Drop> From<AllocFailed<T>> for LogBad {
+    ghost use Rattle.journal_reading.specs.declared.unread.LogBad.TheVariants.{Memory};
+
+    ghost from_gives = { λ _ unread. unread ≡ Memory };
+
+    fn from(_: AllocFailed<T>) -> LogBad {
+        LogBad::Memory
+    }
+}
+
+/// Why the body of the frame at this gate wasn't decoded.
+pub fn body_bad(file: u8, gate: u64, len: usize, why: BodyBad) -> LogBad
     requires room { gate + 9 + len < 2 ^ 62 }
     requires placed { IsPlaced len why }
-    ensures { TellsBad gate why result }
+    ensures { TellsBad file gate why result }
 {
     match why {
-        BodyBad::Bad { place } => Unread::Damaged {
-            place: gate + HEAD + place,
-        },
-        BodyBad::Memory => Unread::Memory,
+        BodyBad::Bad { place } => LogBad::at(file, gate + HEAD + place),
+        BodyBad::Memory => LogBad::Memory,
     }
 }
 
 /// Why the entries of two journals weren't replayed.
-#[derive(Clone, Copy, Debug, PartialEq, Eq)]
-pub enum Misplaced {
-    /// The entry in this frame of this journal, counted from 0, isn't the next one, or forgets below the merge
+#[derive(Clone, Copy, Debug, PartialEq, Eq, Error)]
+pub enum ReplayBad {
+    /// The entry in this frame of this journal, counted from 0, isn't the next one, or forgets to below the merge
     /// timestamp.
+    #[error("the entry in frame {frame} of log {file} is misplaced")]
     Entry { file: u8, frame: usize },
+    #[error("out of memory")]
     Memory,
 }
 
-impl From<AllocError> for Misplaced {
-    ghost use Rattle.std.specs.Prelude.{◌≡◌};
-    ghost use Rattle.journal_reading.specs.declared.unread.Misplaced.TheVariants.{Memory};
+impl From<AllocError> for ReplayBad {
+    ghost use Rattle.journal_reading.specs.declared.unread.ReplayBad.TheVariants.{Memory};
 
     ghost from_gives = { λ _ misplaced. misplaced ≡ Memory };
 
-    fn from(_: AllocError) -> Misplaced {
-        Misplaced::Memory
+    fn from(_: AllocError) -> ReplayBad {
+        ReplayBad::Memory
     }
 }

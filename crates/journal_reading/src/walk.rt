@@ -7,15 +7,19 @@ ghost use Rattle.journal_reading.specs.Walking.{Breaks, IsKept, Reads, StopsAt};
 use crate::apart::is_next;
 use doc_model::Entry;
 
-/// How far entries were read: the number of the last one, and the merge timestamp behind it.
+/// How far entries were replayed: the number of the last one, and the merge timestamp after it.
 #[derive(Clone, Copy)]
-pub struct Front {
+pub struct ReplayPoint {
     pub number: u64,
     pub merge: u64,
 }
 
-/// The front behind the entries past a checkpoint, or the place of the first one that may not stand where it does.
-pub fn walk(checkpoint: u64, from: Front, entries: &[(u64, Entry)]) -> Result<Front, usize>
+/// The point after the entries past a checkpoint, or the index of the first misplaced one.
+pub fn walk(
+    checkpoint: u64,
+    from: ReplayPoint,
+    entries: &[(u64, Entry)],
+) -> Result<ReplayPoint, usize>
     requires { All IsKept entries.now }
     ensures { MatchResult result (Reads from (past checkpoint entries.now)) (StopsAt checkpoint from entries.now) }
 {
@@ -28,8 +32,8 @@ pub fn walk(checkpoint: u64, from: Front, entries: &[(u64, Entry)]) -> Result<Fr
     Ok(front)
 }
 
-/// The front behind an entry, if that may stand there.
-fn follow(front: Front, entry: &(u64, Entry)) -> Option<Front>
+/// The point after an entry, unless the entry is misplaced.
+fn follow(front: ReplayPoint, entry: &(u64, Entry)) -> Option<ReplayPoint>
     requires { IsKept entry.now }
     ensures { MatchOption result (Breaks front entry.now) (Reads front (entry.now ∷ [])) }
 {
@@ -37,13 +41,13 @@ fn follow(front: Front, entry: &(u64, Entry)) -> Option<Front>
         return None;
     }
     let merge = merge_behind(front.merge, &entry.1)?;
-    Some(Front {
+    Some(ReplayPoint {
         number: entry.0,
         merge,
     })
 }
 
-/// The merge timestamp behind an entry, unless that forgets below the one before it.
+/// The merge timestamp after an entry, unless the entry forgets to below the one before it.
 fn merge_behind(merge: u64, entry: &Entry) -> Option<u64>
     ensures { MatchOption result (IsBelow merge entry.now)
         (λ m. (m ≡ merge_after merge (entry.now ∷ [])) × (IsBelow merge entry.now → ⊥)) }

@@ -6,13 +6,13 @@ use Rattle.std.proofs.Math.Nat.{mul-mod_left, mul_assoc, mul-le-mul_left, mul-di
 use Rattle.std.proofs.lemmas.List.Sums.{fold-append}
 use Rattle.std.specs.Prelude.{IsTrue}
 use Rattle.json_text.specs.Numbers.{is_digit, digits_from, digits_value, whole_units, magnitude}
-use Rattle.json_text.specs.Mantissas.{scaled, shifted, Stands, EndsInNoZero}
+use Rattle.json_text.specs.Mantissas.{scaled, shifted, Denotes, EndsInNoZero}
 
 -- one zero more
 ten_more : (v z : ℕ) → v * 10 ^ (z + 1) ≡ v * 10 ^ z * 10
 ten_more v z = rw (pow-add 10 z 1) (sym (mul_assoc v (10 ^ z) 10))
 
-pub zero_digit : (over : Bool) (v z n : ℕ) → Stands over v z n → Stands over v (z + 1) (n * 10 + 0)
+pub zero_digit : (over : Bool) (v z n : ℕ) → Denotes over v z n → Denotes over v (z + 1) (n * 10 + 0)
 zero_digit false v z n h = (omega (arith, h.0, ten_more v z), h.1, h.2)
 zero_digit true v z n h = (h.0, h.1 + 1, omega (arith, h.2, ten_more h.0 h.1), h.3, h.4)
 
@@ -42,15 +42,15 @@ above x limit e =
       | inr le ↦ le
     ]
 
-pub other_digit : (v z n d w : ℕ) → Stands false v z n → d < 10 → d ≢ 0 → scaled v (z + 1) ≡ Some w →
-    Stands false (w + d) 0 (n * 10 + d)
+pub other_digit : (v z n d w : ℕ) → Denotes false v z n → d < 10 → d ≢ 0 → scaled v (z + 1) ≡ Some w →
+    Denotes false (w + d) 0 (n * 10 + d)
 other_digit v z n d w h lt ne e =
     let p = below (v * 10 ^ (z + 1)) (10 ^ 38) w e in
     let same : w + d ≡ n * 10 + d = omega (arith, p.0, h.0, ten_more v z) in
     (omega (arith, same), omega (arith, same, p.1, lt), subst EndsInNoZero (sym same) (ends_in n d lt ne))
 
-pub too_long : (over : Bool) (v z n d x : ℕ) → Stands over v z n → d < 10 → d ≢ 0 → ((over ≡ true) ⊎ (scaled v (z + 1) ≡ None)) →
-    Stands true x 0 (n * 10 + d)
+pub too_long : (over : Bool) (v z n d x : ℕ) → Denotes over v z n → d < 10 → d ≢ 0 → ((over ≡ true) ⊎ (scaled v (z + 1) ≡ None)) →
+    Denotes true x 0 (n * 10 + d)
 too_long true v z n d x h lt ne e = (n * 10 + d, 0, omega arith, omega (arith, h.2, h.3, at_least h.0 h.1), ends_in n d lt ne)
 too_long false v z n d x h lt ne (inl e) = absurd cc
 too_long false v z n d x h lt ne (inr e) = (
@@ -80,9 +80,9 @@ too_much m k le = rw (le-ltb (m * 10 ^ k) (10 ^ 38) (omega (arith, le, at_least 
 
 -- ---- what the steps make
 
-pub digit_zero : (over : Bool) (v z n d : ℕ) → d ≡ 48 → Stands over v z n → Stands over v (z + 1) (n * 10 + (d - 48))
+pub digit_zero : (over : Bool) (v z n d : ℕ) → d ≡ 48 → Denotes over v z n → Denotes over v (z + 1) (n * 10 + (d - 48))
 digit_zero over v z n d e h = let z0 : d - 48 ≡ 0 =
-    omega arith in subst (λ (k : ℕ). Stands over v (z + 1) (n * 10 + k)) (sym z0) (zero_digit over v z n h)
+    omega arith in subst (λ (k : ℕ). Denotes over v (z + 1) (n * 10 + k)) (sym z0) (zero_digit over v z n h)
 
 is_below_ten : (d : ℕ) → IsTrue (is_digit d) → d - 48 < 10
 is_below_ten d h = grind arith
@@ -92,17 +92,17 @@ is_not_zero d h ne e = grind arith
 
 pub digit_kept : (over : Bool) (v z n d w x : ℕ) → over ≡ false → IsTrue (is_digit d) → d ≢ 48 →
     Some w ≡ scaled v (z + 1) → x ≡ d - 48 →
-    Stands over v z n → Stands over (w + x) 0 (n * 10 + (d - 48))
+    Denotes over v z n → Denotes over (w + x) 0 (n * 10 + (d - 48))
 digit_kept true v z n d w x o h ne e x-is s = absurd cc
-digit_kept false v z n d w x o h ne e x-is s = subst (λ (y : ℕ). Stands false (w + y) 0 (n * 10 + (d - 48)))
+digit_kept false v z n d w x o h ne e x-is s = subst (λ (y : ℕ). Denotes false (w + y) 0 (n * 10 + (d - 48)))
     (sym x-is) (other_digit v z n (d - 48) w s (is_below_ten d h) (is_not_zero d h ne) (sym e))
 
-pub digit_over : (over : Bool) (v z n d x : ℕ) → over ≡ true → IsTrue (is_digit d) → d ≢ 48 → Stands over v z n →
-    Stands true x 0 (n * 10 + (d - 48))
+pub digit_over : (over : Bool) (v z n d x : ℕ) → over ≡ true → IsTrue (is_digit d) → d ≢ 48 → Denotes over v z n →
+    Denotes true x 0 (n * 10 + (d - 48))
 digit_over over v z n d x o h ne s = too_long over v z n (d - 48) x s (is_below_ten d h) (is_not_zero d h ne) (inl o)
 
-pub digit_long : (over : Bool) (v z n d x : ℕ) → None ≡ scaled v (z + 1) → IsTrue (is_digit d) → d ≢ 48 → Stands over v z n →
-    Stands true x 0 (n * 10 + (d - 48))
+pub digit_long : (over : Bool) (v z n d x : ℕ) → None ≡ scaled v (z + 1) → IsTrue (is_digit d) → d ≢ 48 → Denotes over v z n →
+    Denotes true x 0 (n * 10 + (d - 48))
 digit_long over v z n d x e h ne s = too_long over v z n (d - 48) x s (is_below_ten d h) (is_not_zero d h ne) (inr (sym e))
 
 pub pow_fits : (z : ℕ) → z ≤ 38 → 10 ^ z < 340282366920938463463374607431768211456
@@ -185,7 +185,7 @@ kept_shifted (suc v) z a b ends =
       | inr ge ↦ whole_of (suc v) z a b (z + a - b) (omega arith) ∙ sym (by_room v z a b false (le-ltb (z + a) b ge))
     ]
 
-pub is_shifted : (over : Bool) (v z n a b : ℕ) → Stands over v z n → whole_units (n * 10 ^ a) (10 ^ b) ≡ shifted over v z a b
+pub is_shifted : (over : Bool) (v z n a b : ℕ) → Denotes over v z n → whole_units (n * 10 ^ a) (10 ^ b) ≡ shifted over v z a b
 is_shifted true v z n a b h = ap (λ (t : ℕ). whole_units (t * 10 ^ a) (10 ^ b)) h.2 ∙ over_shifted h.0 h.1 a b h.3 h.4
 is_shifted false v z n a b h = ap (λ (t : ℕ). whole_units (t * 10 ^ a) (10 ^ b)) h.0 ∙ kept_shifted v z a b h.2
 
@@ -227,7 +227,7 @@ all_digits : (whole fraction : List ℕ) → digits_value (whole ++ fraction) �
 all_digits whole fraction = fold-append (λ k b. k * 10 + (b - 0x30)) 0 whole fraction
 
 pub magnitude_down : (whole fraction exponent : List ℕ) (over : Bool) (v z c : ℕ) →
-    Stands over v z (digits_from (digits_from 0 whole) fraction) →
+    Denotes over v z (digits_from (digits_from 0 whole) fraction) →
     z < 2 ^ 66 → c ≡ min (digits_value exponent) (10 ^ 24) → shifted over v z 18 (length fraction + c) ≡ magnitude
     whole fraction true exponent
 magnitude_down whole fraction exponent over v z c h lt c-is =
@@ -236,7 +236,7 @@ magnitude_down whole fraction exponent over v z c h lt c-is =
     ∙ ap (λ (n : ℕ). whole_units (n * 10 ^ 18) (10 ^ (length fraction + digits_value exponent))) (sym (all_digits whole fraction))
 
 pub magnitude_up : (whole fraction exponent : List ℕ) (over : Bool) (v z c : ℕ) →
-    Stands over v z (digits_from (digits_from 0 whole) fraction) →
+    Denotes over v z (digits_from (digits_from 0 whole) fraction) →
     length fraction < 2 ^ 64 → c ≡ min (digits_value exponent) (10 ^ 24) →
     shifted over v z (18 + c) (length fraction) ≡ magnitude whole fraction false exponent
 magnitude_up whole fraction exponent over v z c h lt c-is =
@@ -247,5 +247,5 @@ magnitude_up whole fraction exponent over v z c h lt c-is =
     (sym (add-zero (length fraction)))
 
 -- no digits yet
-pub stands_first : Stands false 0 0 0
+pub stands_first : Denotes false 0 0 0
 stands_first = (refl, omega arith, λ e. refl)

@@ -15,9 +15,9 @@ placed len (fault.Depth left) = bad.Depth (len - left)
 placed len (fault.Number left) = bad.Number (len - left)
 
 -- the answer is what reading the bytes gives: the tree, or the first fault and its place; want of memory is free
-abbrev pub Answers : List ℕ → Result Node JsonBad → Type 0
-Answers bytes (Ok v) = text_read bytes ≡ Ok v
-Answers bytes (Err e) = (e ≡ bad.Memory) ⊎ ((f : Fault) × (text_read bytes ≡ Err f) × (e ≡ placed (length bytes) f))
+abbrev pub ReadAnswers : List ℕ → Result Node JsonBad → Type 0
+ReadAnswers bytes (Ok v) = text_read bytes ≡ Ok v
+ReadAnswers bytes (Err e) = (e ≡ bad.Memory) ⊎ ((f : Fault) × (text_read bytes ≡ Err f) × (e ≡ placed (length bytes) f))
 
 -- the answer is this tree; want of memory is free
 abbrev pub Takes : Node → Result Node JsonBad → Type 0

@@ -10,9 +10,9 @@ abbrev pub EndsInNoZero : ℕ → Type 0
 EndsInNoZero m = m % 10 ≡ 0 → m ≡ 0
 
 -- these parts stand for n: where it is over, some number from 10^38 on that ends in no zero is meant
-abbrev pub Stands : Bool → ℕ → ℕ → ℕ → Type 0
-Stands false value z n = (n ≡ value * 10 ^ z) × (value < 10 ^ 38) × EndsInNoZero value
-Stands true value z n = (m : ℕ) × (k : ℕ) × (n ≡ m * 10 ^ k) × (10 ^ 38 ≤ m) × EndsInNoZero m
+abbrev pub Denotes : Bool → ℕ → ℕ → ℕ → Type 0
+Denotes false value z n = (n ≡ value * 10 ^ z) × (value < 10 ^ 38) × EndsInNoZero value
+Denotes true value z n = (m : ℕ) × (k : ℕ) × (n ≡ m * 10 ^ k) × (10 ^ 38 ≤ m) × EndsInNoZero m
 
 -- how many units these parts make, raised and lowered by so many places
 abbrev pub shifted : Bool → ℕ → ℕ → ℕ → ℕ → Option ℕ

@@ -1,6 +1,6 @@
 ghost use Rattle.std.specs.Prelude.{◌≡◌, ◌≢◌, ◌-◌, IfOk, IfErr};
 ghost use Rattle.doc_model.specs.declared.node.Node.{Node};
-ghost use Rattle.json_text.specs.Answers.{Answers, Takes, placed};
+ghost use Rattle.json_text.specs.Answers.{ReadAnswers, Takes, placed};
 ghost use Rattle.json_text.specs.Faults.{IsRefusedText};
 ghost use Rattle.json_text.specs.Grammar.{IsJson};
 ghost use Rattle.json_text.specs.Laws.{KeepsRules};
@@ -60,7 +60,7 @@ pub fn read(alloc: Global, bytes: &[u8]) -> Result<Node, JsonBad>
     ensures only { (v : Node) → IsJson bytes.now v → Takes v result }
     ensures rules { IfOk result (λ v. KeepsRules bytes.now v) }
     ensures refused { IfErr result (λ e. e ≢ Memory → IsRefusedText bytes.now e) }
-    ensures answer { Answers bytes.now result }
+    ensures answer { ReadAnswers bytes.now result }
 {
     match whole(alloc, bytes) {
         Ok(node) => Ok(node),

@@ -1,7 +1,7 @@
 ghost use Rattle.std.specs.Prelude.{◌≡◌, ◌+◌, ◌*◌, ◌-◌, ◌<◌, ◌≤◌, ◌^◌, ℕ, Some, min, length, IsTrue};
 ghost use Rattle.std.specs.List.{list_all};
 ghost use Rattle.json_text.specs.Numbers.{is_digit, digits_value, digits_from, magnitude, worth};
-ghost use Rattle.json_text.specs.Mantissas.{Stands, scaled, shifted};
+ghost use Rattle.json_text.specs.Mantissas.{Denotes, scaled, shifted};
 
 use doc_model::Dec;
 
@@ -42,7 +42,7 @@ fn scaled(value: u128, zeros: u128) -> Option<u128>
 fn with_digit(mantissa: Mantissa, digit: u8) -> Mantissa
     requires digit { IsTrue (is_digit digit) }
     requires few { mantissa.zeros < 2 ^ 100 }
-    ensures value { (n : ℕ) → Stands mantissa.over mantissa.value mantissa.zeros n → Stands result.over result.value result.zeros (n * 10 + (digit - 0x30)) }
+    ensures value { (n : ℕ) → Denotes mantissa.over mantissa.value mantissa.zeros n → Denotes result.over result.value result.zeros (n * 10 + (digit - 0x30)) }
     ensures zeros { result.zeros ≤ mantissa.zeros + 1 }
 {
     let Mantissa { value, zeros, over } = mantissa;
@@ -70,7 +70,7 @@ fn with_digit(mantissa: Mantissa, digit: u8) -> Mantissa
 fn with_digits(mantissa: Mantissa, digits: &[u8]) -> Mantissa
     requires digits { IsTrue (list_all is_digit digits.now) }
     requires few { mantissa.zeros < 2 ^ 64 }
-    ensures value { (n : ℕ) → Stands mantissa.over mantissa.value mantissa.zeros n → Stands result.over result.value result.zeros (digits_from n digits.now) }
+    ensures value { (n : ℕ) → Denotes mantissa.over mantissa.value mantissa.zeros n → Denotes result.over result.value result.zeros (digits_from n digits.now) }
     ensures zeros { result.zeros ≤ mantissa.zeros + length digits.now }
 {
     let mut mantissa = mantissa;

@@ -3,7 +3,7 @@ use Rattle.std.proofs.Common.{◌≡◌, ℕ, Bool, cond, List, [], ◌∷◌, m
 use Rattle.doc_model.specs.declared.query.Query.{Query}
 use Rattle.doc_meaning.specs.declared.version.Version.{Version}
 use Rattle.doc_meaning.specs.Answers.{matching}
-use Rattle.doc_meaning.specs.Meaning.{sat}
+use Rattle.doc_meaning.specs.Meaning.{satisfies}
 use Rattle.doc_filter.specs.declared.filter.Filter.{Filter}
 use Rattle.doc_filter.specs.Filters.{FiltersBy, lets_through}
 
@@ -21,4 +21,4 @@ pub passing_is : (found : List (List ℕ × Version)) (f : Filter) (q : Query) �
     passing found f ≡ matching found q
 passing_is found f q held =
     ap (map (λ e. e.0))
-    (filter_same (λ e. lets_through f e.1.document) (λ e. sat q e.1.document) (λ e. held e.1.document) found)
+    (filter_same (λ e. lets_through f e.1.document) (λ e. satisfies q e.1.document) (λ e. held e.1.document) found)

@@ -62,7 +62,7 @@ module _ {added has among : Bool} (told : added ≡ not has) (known : has ≡ am
   pub was_new : added ≡ true → among ≡ false
   was_new is = not-true _ (sym (ap not known) ∙ sym told ∙ is)
 
--- the names of one operation alone: none stands twice
+-- the names of one operation alone: none occurs twice
 pub one_names_once : (ops : List Op) → 1 ≤ length ops → length ops < 2 →
     (None ≡ first_twice [] (map uri_of ops)) × IsTrue (is_distinct (map uri_of ops))
 one_names_once [] some few = absurd (omega arith)

@@ -1,57 +1,13 @@
-// The disk model in memory, tried by crashes at each length of a write and stops at each call.
+//! The disk model in memory, tried by crashes at each length of a write and stops at each call.
+
 mod files;
 mod worlds;
 
-use disk_memory::{MemoryDisk, Meter, Plan, blank_logs, blank_store};
+use crate::fixtures::{Fail, landed, meter, metered};
+use disk_memory::{MemoryDisk, Meter, blank_logs, blank_store};
 use disk_model::{Disk, Failed, Store};
 use std::alloc::{AllocError, Global};
 use std::process::Abort;
-
-#[derive(Debug, Drop)]
-enum Fail {
-    Memory,
-    Device,
-}
-
-impl From<AllocError> for Fail {
-    fn from(_: AllocError) -> Fail {
-        Fail::Memory
-    }
-}
-
-impl From<Failed> for Fail {
-    fn from(_: Failed) -> Fail {
-        Fail::Device
-    }
-}
-
-fn smooth(alloc: Global) -> Plan {
-    Plan {
-        failing: Vec::new(alloc),
-        stop: None,
-    }
-}
-
-// How much of each change of log 0 has landed.
-fn landed(alloc: Global, counts: &[u64]) -> Result<Vec<Vec<u64>>, AllocError> {
-    let counts = counts.to_vec(alloc)?;
-    let mut all = Vec::new(alloc);
-    all.push(counts)?;
-    Ok(all)
-}
-
-fn bytes_of(alloc: Global, bytes: &[u8]) -> Result<Vec<u8>, AllocError> {
-    bytes.to_vec(alloc)
-}
-
-fn third_fails(alloc: Global) -> Result<Plan, AllocError> {
-    let mut failing = Vec::new(alloc);
-    failing.push(3)?;
-    Ok(Plan {
-        failing,
-        stop: Some(6),
-    })
-}
 
 fn append(disk: &mut MemoryDisk, bytes: &[u8; 3]) -> Result<(), Failed> {
     let end = disk.len(0)?;
@@ -73,7 +29,7 @@ fn crashed(
     disk: &MemoryDisk,
     landed: &[Vec<u64>],
 ) -> Result<MemoryDisk, AllocError> {
-    disk.after_crash(alloc, landed, Meter::new(alloc, smooth(alloc))?)
+    disk.after_crash(alloc, landed, meter(alloc, &[], None)?)
 }
 
 // What a crash leaves of log 0.
@@ -147,10 +103,9 @@ fn write_over(disk: &mut MemoryDisk, place: u64, bytes: &[u8; 6]) -> Result<(), 
 
 // A disk whose log 0 has these bytes.
 fn holding(alloc: Global, bytes: &[u8]) -> Result<MemoryDisk, AllocError> {
-    let meter = Meter::new(alloc, smooth(alloc))?;
     let mut contents = blank_logs(alloc)?;
-    contents[0] = bytes_of(alloc, bytes)?;
-    MemoryDisk::new(alloc, contents, meter)
+    contents[0] = bytes.to_vec(alloc)?;
+    MemoryDisk::new(alloc, contents, meter(alloc, &[], None)?)
 }
 
 #[test]
@@ -172,16 +127,10 @@ fn a_torn_write_over_bytes_leaves_the_rest(rt: HostRuntime) -> Result<(), Fail> 
     Ok(())
 }
 
-// A blank disk whose calls this meter counts.
-fn metered(alloc: Global, meter: &Meter) -> Result<MemoryDisk, AllocError> {
-    let meter = meter.share()?;
-    MemoryDisk::new(alloc, blank_logs(alloc)?, meter)
-}
-
 // A write that succeeds, and one that fails.
-fn check_fault(rt: &impl Abort, disk: &mut MemoryDisk, meter: &Meter) -> Result<(), Fail> {
+fn check_fault(rt: &impl Abort, disk: &mut MemoryDisk, calls: &Meter) -> Result<(), Fail> {
     append(disk, b"abc")?;
-    assert_eq!(rt; meter.made(), 2);
+    assert_eq!(rt; calls.made(), 2);
     assert!(rt; append(disk, b"def").is_err());
     assert_eq!(rt; (disk.faults(), disk.unsure(0)), (1, 2));
     Ok(())
@@ -207,9 +156,9 @@ fn check_left(rt: &impl Abort, alloc: Global, disk: &MemoryDisk) -> Result<(), F
 #[test]
 fn nothing_changes_after_the_stop(rt: HostRuntime) -> Result<(), Fail> {
     let alloc = rt.alloc();
-    let meter = Meter::new(alloc, third_fails(alloc)?)?;
-    let mut disk = metered(alloc, &meter)?;
-    check_fault(&rt, &mut disk, &meter)?;
+    let calls = meter(alloc, &[3], Some(6))?;
+    let mut disk = metered(alloc, &calls)?;
+    check_fault(&rt, &mut disk, &calls)?;
     check_stop(&rt, &mut disk)?;
     check_left(&rt, alloc, &disk)
 }

@@ -1,77 +1,23 @@
-// Crashes and faults at each device call, and the bytes of a log.
+//! Crashes and faults at each device call, and the bytes of a log.
+
 mod bytes;
 mod faults;
 
-use disk_memory::{MemoryDisk, Meter, Plan, blank_logs};
-use disk_model::Failed;
-use frame_log::{Frame, LogRefusal, ScanRefusal, scan};
-use std::alloc::{AllocError, AllocFailed, Global};
+use crate::fixtures::{Fail, landed, meter, metered};
+use disk_memory::MemoryDisk;
+use frame_log::{Frame, LogRefusal, scan};
+use std::alloc::{AllocError, Global};
 use std::process::Abort;
 
-#[derive(Debug, Drop)]
-enum Fail {
-    Memory,
-    Device,
-    Log(LogRefusal),
-    Scan(ScanRefusal),
-}
-
-impl From<AllocError> for Fail {
-    fn from(_: AllocError) -> Fail {
-        Fail::Memory
-    }
-}
-
-impl<T: Drop> From<AllocFailed<T>> for Fail {
-    fn from(_: AllocFailed<T>) -> Fail {
-        Fail::Memory
-    }
-}
-
-impl From<Failed> for Fail {
-    fn from(_: Failed) -> Fail {
-        Fail::Device
-    }
-}
-
-impl From<LogRefusal> for Fail {
-    fn from(refusal: LogRefusal) -> Fail {
-        Fail::Log(refusal)
-    }
-}
-
-impl From<ScanRefusal> for Fail {
-    fn from(refusal: ScanRefusal) -> Fail {
-        Fail::Scan(refusal)
-    }
-}
-
-fn meter(alloc: Global, failing: &[u64], stop: Option<u64>) -> Result<Meter, AllocError> {
-    let failing = failing.to_vec(alloc)?;
-    Meter::new(alloc, Plan { failing, stop })
-}
-
+// A blank disk on which these calls fail, and all from the stop on.
 fn blank(alloc: Global, failing: &[u64], stop: Option<u64>) -> Result<MemoryDisk, AllocError> {
-    MemoryDisk::new(alloc, blank_logs(alloc)?, meter(alloc, failing, stop)?)
-}
-
-// A blank disk whose calls this meter counts.
-fn metered(alloc: Global, calls: &Meter) -> Result<MemoryDisk, AllocError> {
-    let calls = calls.share()?;
-    MemoryDisk::new(alloc, blank_logs(alloc)?, calls)
+    metered(alloc, &meter(alloc, failing, stop)?)
 }
 
 // How many frames are in log 0.
 fn frames(alloc: Global, disk: &mut MemoryDisk) -> Result<usize, Fail> {
     let (_, bodies) = scan(alloc, disk, 0)?;
     Ok(bodies.len())
-}
-
-// How much of each change of log 0 has landed.
-fn landed(alloc: Global, counts: &[u64]) -> Result<Vec<Vec<u64>>, Fail> {
-    let mut landed = Vec::new(alloc);
-    landed.push(counts.to_vec(alloc)?)?;
-    Ok(landed)
 }
 
 // How many frames a crash leaves where so many bytes of each change since the last sync have landed.

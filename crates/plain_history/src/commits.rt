@@ -14,7 +14,7 @@ impl History {
     ghost use Rattle.doc_meaning.specs.Replies.{commit_reply};
     ghost use Rattle.plain_history.specs.Histories.{history_of};
 
-    /// What a commit is answered. `full` says that no log has room for one more entry.
+    /// The reply to a commit. `full` says that no log has room for one more entry.
     pub fn commit_reply(
         &self,
         alloc: Global,
@@ -49,7 +49,7 @@ impl History {
     }
 }
 
-/// The first URI that stands among those before it.
+/// The first URI that is among those before it.
 fn first_twice(ops: &[Op]) -> Option<&Text>
     ensures { option_copied result ≡ first_twice [] (map uri_of ops.now) }
 {

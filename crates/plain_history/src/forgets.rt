@@ -7,7 +7,7 @@ impl History {
     ghost use Rattle.doc_meaning.specs.Replies.{forget_reply};
     ghost use Rattle.plain_history.specs.Histories.{history_of};
 
-    /// What a forget is answered. `full` says that no log has room for one more entry.
+    /// The reply to a forget. `full` says that no log has room for one more entry.
     pub fn forget_reply(&self, t: u64, full: bool) -> ForgetReply
         ensures { result ≡ forget_reply full (history_of self.now) t }
     {

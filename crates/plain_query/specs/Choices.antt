@@ -1,4 +1,4 @@
--- Numbers that stand close to each other, chosen one by one.
+-- Numbers that are close to each other, chosen one by one.
 use Rattle.std.specs.Prelude.{ℕ, Bool, ◌&&◌, ◌||◌, not, List, ◌++◌}
 use Rattle.std.specs.List.{list_any}
 use Rattle.doc_meaning.specs.Near.{choices, is_rising, is_within}

@@ -2,7 +2,7 @@ ghost use Rattle.std.specs.Prelude.{◌≡◌, ◌==◌, not};
 ghost use Rattle.std.specs.List.{list_all};
 ghost use Rattle.doc_meaning.specs.Meaning.{in_directory, is_inside};
 
-/// Whether a URI lies in a directory: behind the directory's URI there is more, and no slash in it unless any
+/// Whether a URI is in a directory: behind the directory's URI there is more, and no slash in it unless any
 /// depth will do.
 pub fn in_directory(infinite: bool, uri: &str, directory: &str) -> bool
     ensures { result ≡ in_directory infinite uri.now directory.now }

@@ -1,17 +1,17 @@
 ghost use Rattle.std.specs.Prelude.{◌≡◌, ◌++◌, IfOk, OnOk, map, filter, Some};
 ghost use Rattle.std.specs.List.{list_any};
 ghost use Rattle.doc_meaning.specs.Meaning.{some_pair, have_common, in_directory};
-ghost use Rattle.doc_meaning.specs.Strings.{scalars_of, scalars, is_owned};
+ghost use Rattle.doc_meaning.specs.Strings.{scalars_of, scalars, is_named};
 ghost use Rattle.doc_meaning.specs.Values.{scalar_equals, in_range};
 ghost use Rattle.plain_query.specs.Leaves.{leaf_holds};
 
-use crate::text_starts::{is_among, is_owned};
+use crate::text_starts::{is_among, is_named};
 use crate::{in_directory, in_range, scalar_equals, scalars};
 use doc_model::{Case, Compare, Document, Node, Query, Scalar, Scalars, Text, Texts};
 use sqlite_items::Items;
 use std::alloc::{AllocError, Global};
 
-/// Whether a query holds that starts nowhere and has no children. For every other the answer is no.
+/// Whether a query without starts and without children holds. It is false for every other query.
 pub fn leaf_holds(alloc: Global, query: &Query, document: &Document) -> Result<bool, AllocError>
     ensures { IfOk result (λ b. b ≡ leaf_holds query.now document.now) }
 {
@@ -52,12 +52,12 @@ fn owned_scalars(
     names: &[Text],
     found: &[(Option<Text>, Scalar)],
 ) -> Result<Scalars, AllocError>
-    ensures { let owned = filter (λ s. is_owned (Some names.now) s.0) found.now in
+    ensures { let owned = filter (λ s. is_named (Some names.now) s.0) found.now in
         IfOk result (λ scalars. scalars ≡ map (λ s. s.1) owned) }
 {
     let mut out = Items::new(alloc);
     for scalar in found {
-        if is_owned(Some(names), &scalar.0) {
+        if is_named(Some(names), &scalar.0) {
             out.push(scalar.1.copy(alloc)?)?;
         }
     }
@@ -125,7 +125,7 @@ fn have_common(names: &Texts, wanted: &Texts) -> bool
         .any(|name| is_among(names, name.as_str()))
 }
 
-/// Whether a URI lies in one of the directories.
+/// Whether a URI is in one of the directories.
 fn in_some_directory(infinite: bool, uri: &str, directories: &[Text]) -> bool
     ensures { result ≡ list_any (in_directory infinite uri.now) directories.now }
 {

@@ -1,10 +1,10 @@
 //! Whether a document satisfies a query, and the two tests of a query, computed as they are defined: slowly, and
-//! plain to read. Tests compare every faster way with it, and no faster way stands on it.
+//! plain to read. Tests compare every faster way with it, and no faster way uses it.
 #![tactic(auto)]
 
-mod blindness;
 mod bounding;
 mod directories;
+mod ignoring_case;
 mod leaves;
 mod matching;
 mod meanings;
@@ -14,11 +14,11 @@ mod string_list;
 mod text_bounding;
 mod text_starts;
 mod values;
-mod word_places;
+mod word_positions;
 
-pub use blindness::is_blind;
 pub use bounding::bounds;
 pub use directories::in_directory;
+pub use ignoring_case::ignores_case;
 pub use leaves::leaf_holds;
 pub use matching::matches;
 pub use meanings::meaning;
@@ -27,4 +27,4 @@ pub use scalar_list::scalars;
 pub use string_list::strings;
 pub use text_starts::starts_among;
 pub use values::{in_range, order_holds, scalar_equals};
-pub use word_places::{places, words_seen};
+pub use word_positions::{positions, words_seen};

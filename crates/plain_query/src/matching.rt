@@ -1,5 +1,5 @@
 ghost use Rattle.std.specs.Prelude.{◌≡◌, IfOk};
-ghost use Rattle.doc_meaning.specs.Meaning.{sat};
+ghost use Rattle.doc_meaning.specs.Meaning.{satisfies};
 
 use crate::meaning;
 use doc_model::{Document, Query};
@@ -7,7 +7,7 @@ use std::alloc::{AllocError, Global};
 
 /// Whether a document satisfies a query.
 pub fn matches(alloc: Global, query: &Query, document: &Document) -> Result<bool, AllocError>
-    ensures { IfOk result (λ b. b ≡ sat query.now document.now) }
+    ensures { IfOk result (λ b. b ≡ satisfies query.now document.now) }
 {
     Ok(meaning(alloc, query, document)?.holds)
 }

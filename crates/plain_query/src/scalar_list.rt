@@ -6,7 +6,7 @@ use doc_model::{Members, Node, Nodes, Scalar, Text};
 use sqlite_items::Items;
 use std::alloc::{AllocError, Global};
 
-/// The scalars of a tree in document order, each with its owner: the name of the member whose value holds it
+/// The scalars of a tree in document order, each with its property: the name of the member whose value holds it
 /// through arrays alone.
 pub fn scalars(alloc: Global, root: &Node) -> Result<Items<(Option<Text>, Scalar)>, AllocError>
     ensures { IfOk result (λ found. found ≡ scalars root.now) }
@@ -20,17 +20,17 @@ pub fn scalars(alloc: Global, root: &Node) -> Result<Items<(Option<Text>, Scalar
 fn add_scalars(
     alloc: Global,
     node: &Node,
-    owner: Option<&Text>,
+    property: Option<&Text>,
     out: &mut Items<(Option<Text>, Scalar)>,
 ) -> Result<(), AllocError>
-    ensures { OnOk result (out.new ≡ out.old ++ scalars_under node.now (option_copied owner.entry)) }
+    ensures { OnOk result (out.new ≡ out.old ++ scalars_under node.now (option_copied property.entry)) }
 {
     match node {
-        Node::Null => add_scalar(alloc, Scalar::Null, owner, out),
-        Node::Bool(b) => add_scalar(alloc, Scalar::Bool(*b), owner, out),
-        Node::Num(n) => add_scalar(alloc, Scalar::Num(*n), owner, out),
-        Node::Text(t) => add_scalar(alloc, Scalar::Text(t.copy(alloc)?), owner, out),
-        Node::Items(items) => add_items(alloc, items, owner, out),
+        Node::Null => add_scalar(alloc, Scalar::Null, property, out),
+        Node::Bool(b) => add_scalar(alloc, Scalar::Bool(*b), property, out),
+        Node::Num(n) => add_scalar(alloc, Scalar::Num(*n), property, out),
+        Node::Text(t) => add_scalar(alloc, Scalar::Text(t.copy(alloc)?), property, out),
+        Node::Items(items) => add_items(alloc, items, property, out),
         Node::Members(members) => add_members(alloc, members, out),
     }
 }
@@ -39,14 +39,14 @@ fn add_scalars(
 fn add_items(
     alloc: Global,
     items: &Nodes,
-    owner: Option<&Text>,
+    property: Option<&Text>,
     out: &mut Items<(Option<Text>, Scalar)>,
 ) -> Result<(), AllocError>
-    ensures { let added = flat_map (λ item. scalars_under item (option_copied owner.entry)) items.now in
+    ensures { let added = flat_map (λ item. scalars_under item (option_copied property.entry)) items.now in
         OnOk result (out.new ≡ out.old ++ added) }
 {
     for item in items.as_slice() {
-        add_scalars(alloc, item, owner, out)?;
+        add_scalars(alloc, item, property, out)?;
     }
     Ok(())
 }
@@ -69,19 +69,19 @@ fn add_members(
 fn add_scalar(
     alloc: Global,
     scalar: Scalar,
-    owner: Option<&Text>,
+    property: Option<&Text>,
     out: &mut Items<(Option<Text>, Scalar)>,
 ) -> Result<(), AllocError>
-    ensures { OnOk result (out.new ≡ out.old ++ (option_copied owner.entry, scalar) ∷ []) }
+    ensures { OnOk result (out.new ≡ out.old ++ (option_copied property.entry, scalar) ∷ []) }
 {
-    let owner = copy_owner(alloc, owner)?;
-    out.push((owner, scalar))
+    let property = copy_owner(alloc, property)?;
+    out.push((property, scalar))
 }
 
-pub(crate) fn copy_owner(alloc: Global, owner: Option<&Text>) -> Result<Option<Text>, AllocError>
-    ensures { IfOk result (λ o. o ≡ option_copied owner.entry) }
+pub(crate) fn copy_owner(alloc: Global, property: Option<&Text>) -> Result<Option<Text>, AllocError>
+    ensures { IfOk result (λ o. o ≡ option_copied property.entry) }
 {
-    match owner {
+    match property {
         None => Ok(None),
         Some(name) => Ok(Some(name.copy(alloc)?)),
     }

@@ -1,10 +1,10 @@
 ghost use Rattle.std.specs.Prelude.{◌≡◌, ◌∷◌, [], IfOk, filter, Some};
-ghost use Rattle.doc_meaning.specs.Estimates.{exactly, only_maybe, stand, each_stands, neighbours_stand};
+ghost use Rattle.doc_meaning.specs.Estimates.{exactly, only_maybe, occur, each_occurs, neighbours_occur};
 ghost use Rattle.doc_meaning.specs.Estimates.{word_bounds, text_bounds, prop_word_bounds, prop_text_bounds};
-ghost use Rattle.doc_meaning.specs.Strings.{is_owned};
+ghost use Rattle.doc_meaning.specs.Strings.{is_named};
 
 use crate::scalar_list::copy_owner;
-use crate::{is_blind, places, words_seen};
+use crate::{ignores_case, positions, words_seen};
 use doc_meaning::{Bounds, StringNode};
 use doc_model::{Case, Text};
 use sqlite_items::Items;
@@ -39,24 +39,24 @@ pub(crate) fn text_bounds(
 ) -> Result<Bounds, AllocError>
     ensures { IfOk result (λ b. b ≡ text_bounds found.now case text.now) }
 {
-    let blind = is_blind(case, text);
-    let words = words_seen(alloc, blind, text)?;
-    word_bounds(alloc, found, blind, words.as_slice())
+    let any_case = ignores_case(case, text);
+    let words = words_seen(alloc, any_case, text)?;
+    word_bounds(alloc, found, any_case, words.as_slice())
 }
 
 fn word_bounds(
     alloc: Global,
     found: &[StringNode],
-    blind: bool,
+    any_case: bool,
     words: &[Text],
 ) -> Result<Bounds, AllocError>
-    ensures { IfOk result (λ b. b ≡ word_bounds found.now blind words.now) }
+    ensures { IfOk result (λ b. b ≡ word_bounds found.now any_case words.now) }
 {
     match words {
         [] => Ok(exactly(false)),
-        [_] => Ok(exactly(stand(alloc, found, blind, words)?)),
-        [_, _] => Ok(exactly(stand(alloc, found, blind, words)?)),
-        _ => Ok(only_maybe(neighbours_stand(alloc, found, blind, words)?)),
+        [_] => Ok(exactly(occur(alloc, found, any_case, words)?)),
+        [_, _] => Ok(exactly(occur(alloc, found, any_case, words)?)),
+        _ => Ok(only_maybe(neighbours_occur(alloc, found, any_case, words)?)),
     }
 }
 
@@ -70,27 +70,27 @@ pub(crate) fn prop_text_bounds(
 ) -> Result<Bounds, AllocError>
     ensures { IfOk result (λ b. b ≡ prop_text_bounds found.now case text.now name.now) }
 {
-    let blind = is_blind(case, text);
-    let words = words_seen(alloc, blind, text)?;
+    let any_case = ignores_case(case, text);
+    let words = words_seen(alloc, any_case, text)?;
     let owned = owned_strings(alloc, found, name)?;
-    prop_word_bounds(alloc, found, owned.as_slice(), blind, words.as_slice())
+    prop_word_bounds(alloc, found, owned.as_slice(), any_case, words.as_slice())
 }
 
 fn prop_word_bounds(
     alloc: Global,
     found: &[StringNode],
     owned: &[StringNode],
-    blind: bool,
+    any_case: bool,
     words: &[Text],
 ) -> Result<Bounds, AllocError>
-    ensures { IfOk result (λ b. b ≡ prop_word_bounds found.now owned.now blind words.now) }
+    ensures { IfOk result (λ b. b ≡ prop_word_bounds found.now owned.now any_case words.now) }
 {
     match words {
         [] => Ok(exactly(false)),
-        [_] => Ok(exactly(stand(alloc, owned, blind, words)?)),
+        [_] => Ok(exactly(occur(alloc, owned, any_case, words)?)),
         _ => {
-            let each = each_stands(alloc, owned, blind, words)?;
-            let neighbours = neighbours_stand(alloc, found, blind, words)?;
+            let each = each_occurs(alloc, owned, any_case, words)?;
+            let neighbours = neighbours_occur(alloc, found, any_case, words)?;
             Ok(only_maybe(each && neighbours))
         }
     }
@@ -102,23 +102,23 @@ fn owned_strings(
     found: &[StringNode],
     name: &str,
 ) -> Result<Items<StringNode>, AllocError>
-    ensures { IfOk result (λ owned. owned ≡ filter (λ s. is_owned (Some (name.now ∷ [])) s.owner) found.now) }
+    ensures { IfOk result (λ owned. owned ≡ filter (λ s. is_named (Some (name.now ∷ [])) s.property) found.now) }
 {
     let mut out = Items::new(alloc);
     for string in found {
-        if is_owned_by(name, &string.owner) {
+        if is_owned_by(name, &string.property) {
             out.push(copy_string(alloc, string)?)?;
         }
     }
     Ok(out)
 }
 
-fn is_owned_by(name: &str, owner: &Option<Text>) -> bool
-    ensures { result ≡ is_owned (Some (name.now ∷ [])) owner.now }
+fn is_owned_by(name: &str, property: &Option<Text>) -> bool
+    ensures { result ≡ is_named (Some (name.now ∷ [])) property.now }
 {
-    match owner {
+    match property {
         None => false,
-        Some(owner) => owner.as_str() == name,
+        Some(property) => property.as_str() == name,
     }
 }
 
@@ -126,61 +126,61 @@ fn copy_string(alloc: Global, string: &StringNode) -> Result<StringNode, AllocEr
     ensures { IfOk result (λ s. s ≡ string.now) }
 {
     Ok(StringNode {
-        owner: copy_owner(alloc, string.owner.as_ref())?,
+        property: copy_owner(alloc, string.property.as_ref())?,
         text: string.text.copy(alloc)?,
-        base: string.base,
+        first_position: string.first_position,
     })
 }
 
-/// Whether the words stand one after another in some string.
-fn stand(
+/// Whether the words occur one after another in some string.
+fn occur(
     alloc: Global,
     found: &[StringNode],
-    blind: bool,
+    any_case: bool,
     words: &[Text],
 ) -> Result<bool, AllocError>
-    ensures { IfOk result (λ b. b ≡ stand found.now blind words.now) }
+    ensures { IfOk result (λ b. b ≡ occur found.now any_case words.now) }
 {
     for string in found {
-        let seen = words_seen(alloc, blind, string.text.as_str())?;
-        if !places(alloc, words, seen.as_slice())?.is_empty() {
+        let seen = words_seen(alloc, any_case, string.text.as_str())?;
+        if !positions(alloc, words, seen.as_slice())?.is_empty() {
             return Ok(true);
         }
     }
     Ok(false)
 }
 
-/// Whether each word stands somewhere.
-fn each_stands(
+/// Whether each word occurs somewhere.
+fn each_occurs(
     alloc: Global,
     found: &[StringNode],
-    blind: bool,
+    any_case: bool,
     words: &[Text],
 ) -> Result<bool, AllocError>
-    ensures { IfOk result (λ b. b ≡ each_stands found.now blind words.now) }
+    ensures { IfOk result (λ b. b ≡ each_occurs found.now any_case words.now) }
 {
     match words {
         [] => Ok(true),
         _ => {
-            let first = stand(alloc, found, blind, &words[..1])?;
-            Ok(first && each_stands(alloc, found, blind, &words[1..])?)
+            let first = occur(alloc, found, any_case, &words[..1])?;
+            Ok(first && each_occurs(alloc, found, any_case, &words[1..])?)
         }
     }
 }
 
-/// Whether each word and the one behind it stand somewhere one after another.
-fn neighbours_stand(
+/// Whether each word and the one behind it occur one after another somewhere.
+fn neighbours_occur(
     alloc: Global,
     found: &[StringNode],
-    blind: bool,
+    any_case: bool,
     words: &[Text],
 ) -> Result<bool, AllocError>
-    ensures { IfOk result (λ b. b ≡ neighbours_stand found.now blind words.now) }
+    ensures { IfOk result (λ b. b ≡ neighbours_occur found.now any_case words.now) }
 {
     match words {
         [_, _, ..] => {
-            let first = stand(alloc, found, blind, &words[..2])?;
-            Ok(first && neighbours_stand(alloc, found, blind, &words[1..])?)
+            let first = occur(alloc, found, any_case, &words[..2])?;
+            Ok(first && neighbours_occur(alloc, found, any_case, &words[1..])?)
         }
         _ => Ok(true),
     }

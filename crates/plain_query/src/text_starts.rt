@@ -1,11 +1,11 @@
 ghost use Rattle.std.specs.Prelude.{◌≡◌, ◌+◌, ◌<◌, ◌^◌, ◌++◌, All, IfOk, OnOk, length, map};
 ghost use Rattle.std.specs.Option.{option_copied};
-ghost use Rattle.doc_meaning.specs.Strings.{is_owned, starts_among, starts_in};
+ghost use Rattle.doc_meaning.specs.Strings.{is_named, starts_among, starts_in};
 ghost use Rattle.doc_meaning.specs.Words.{plain};
 ghost use Rattle.doc_meaning.specs.Meaning.{word_starts};
 ghost use Rattle.doc_model.specs.Tree.{is_among};
 
-use crate::{is_blind, places, words_seen};
+use crate::{ignores_case, positions, words_seen};
 use doc_meaning::StringNode;
 use doc_model::{Case, Text};
 use sqlite_items::Items;
@@ -19,13 +19,13 @@ pub(crate) fn is_among(names: &[Text], name: &str) -> bool
 }
 
 /// Whether the owner is one of the names, where names are given.
-pub(crate) fn is_owned(names: Option<&[Text]>, owner: &Option<Text>) -> bool
-    ensures { result ≡ is_owned (option_copied names.entry) owner.now }
+pub(crate) fn is_named(names: Option<&[Text]>, property: &Option<Text>) -> bool
+    ensures { result ≡ is_named (option_copied names.entry) property.now }
 {
-    match (names, owner) {
+    match (names, property) {
         (None, _) => true,
         (Some(_), None) => false,
-        (Some(names), Some(owner)) => is_among(names, owner.as_str()),
+        (Some(names), Some(property)) => is_among(names, property.as_str()),
     }
 }
 
@@ -36,24 +36,24 @@ fn starts_in(
     text: &str,
     case: Case,
 ) -> Result<Items<u64>, AllocError>
-    requires { string.now.base + length (plain string.now.text) < 2 ^ 64 }
+    requires { string.now.first_position + length (plain string.now.text) < 2 ^ 64 }
     ensures { IfOk result (λ ns. ns ≡ starts_in string.now text.now case) }
 {
-    let blind = is_blind(case, text);
-    let wanted = words_seen(alloc, blind, text)?;
-    let seen = words_seen(alloc, blind, string.text.as_str())?;
-    let found = places(alloc, wanted.as_slice(), seen.as_slice())?;
-    behind(alloc, string.base, found.as_slice())
+    let any_case = ignores_case(case, text);
+    let wanted = words_seen(alloc, any_case, text)?;
+    let seen = words_seen(alloc, any_case, string.text.as_str())?;
+    let found = positions(alloc, wanted.as_slice(), seen.as_slice())?;
+    behind(alloc, string.first_position, found.as_slice())
 }
 
 /// Each number raised by the base.
-fn behind(alloc: Global, base: u64, places: &[u64]) -> Result<Items<u64>, AllocError>
-    requires { All (λ j. base + j < 2 ^ 64) places.now }
-    ensures { IfOk result (λ ns. ns ≡ map (λ j. base + j) places.now) }
+fn behind(alloc: Global, first_position: u64, positions: &[u64]) -> Result<Items<u64>, AllocError>
+    requires { All (λ j. first_position + j < 2 ^ 64) positions.now }
+    ensures { IfOk result (λ ns. ns ≡ map (λ j. first_position + j) positions.now) }
 {
     let mut out = Items::new(alloc);
-    for j in places {
-        out.push(base + *j)?;
+    for j in positions {
+        out.push(first_position + *j)?;
     }
     Ok(out)
 }
@@ -67,12 +67,12 @@ pub fn starts_among(
     case: Case,
     names: Option<&[Text]>,
 ) -> Result<Items<u64>, AllocError>
-    requires { All (λ s. s.base + length (plain s.text) < 2 ^ 64) found.now }
+    requires { All (λ s. s.first_position + length (plain s.text) < 2 ^ 64) found.now }
     ensures { IfOk result (λ ns. ns ≡ starts_among found.now text.now case (option_copied names.entry)) }
 {
     let mut out = Items::new(alloc);
     for string in found {
-        if is_owned(names, &string.owner) {
+        if is_named(names, &string.property) {
             out.append(starts_in(alloc, string, text, case)?)?;
         }
     }
@@ -87,7 +87,7 @@ pub(crate) fn word_starts(
     case: Case,
     names: Option<&[Text]>,
 ) -> Result<Items<u64>, AllocError>
-    requires { All (λ s. s.base + length (plain s.text) < 2 ^ 64) found.now }
+    requires { All (λ s. s.first_position + length (plain s.text) < 2 ^ 64) found.now }
     ensures { IfOk result (λ ns. ns ≡ word_starts found.now texts.now case (option_copied names.entry)) }
 {
     let mut out = Items::new(alloc);

@@ -1,7 +1,7 @@
 ghost use Rattle.std.specs.Prelude.{◌≡◌, IfOk};
 ghost use Rattle.doc_meaning.specs.Values.{text_equals, scalar_equals, scalar_order, order_holds, in_range};
 
-use crate::{is_blind, words_seen};
+use crate::{ignores_case, words_seen};
 use doc_model::{Case, Compare, Scalar};
 use std::alloc::{AllocError, Global};
 use std::cmp::Ordering;
@@ -40,9 +40,9 @@ fn text_equals(
     if exact {
         return Ok(found == wanted);
     }
-    let blind = is_blind(case, wanted);
-    let found = words_seen(alloc, blind, found)?;
-    let wanted = words_seen(alloc, blind, wanted)?;
+    let any_case = ignores_case(case, wanted);
+    let found = words_seen(alloc, any_case, found)?;
+    let wanted = words_seen(alloc, any_case, wanted)?;
     Ok(found.as_slice() == wanted.as_slice())
 }
 

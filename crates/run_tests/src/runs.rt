@@ -1,3 +1,4 @@
-// Whole runs over a world in memory.
+//! Whole runs over a world in memory.
+
 mod words;
 mod worlds;

@@ -1,4 +1,5 @@
-// Directories as what their four logs hold.
+//! Directories as what their four logs hold.
+
 ghost use Rattle.std.specs.Prelude.{◌<◌};
 ghost use Rattle.disk_model.specs.declared.disk.TheConstants.{LOG_COUNT};
 

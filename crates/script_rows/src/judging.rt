@@ -1,4 +1,5 @@
-// How a script ends, beside how it is to end.
+//! How a script ends, beside how it is to end.
+
 use crate::directory::{Logs, NAMES, blank, copied};
 use crate::running::{Ended, calls_before, fresh, logs_behind, ran_script, told};
 use crate::script::{Begin, Log, Script};
@@ -26,7 +27,7 @@ fn replaced(alloc: Global, logs: Logs, others: &[Log]) -> Result<Logs, AllocErro
     Ok(out)
 }
 
-/// Where a script begins, behind one that left these logs.
+/// Where a script begins, after one that left these logs.
 fn beginning(alloc: Global, script: &Script, before: &Logs) -> Result<Logs, AllocError> {
     let logs = match script.begin {
         Begin::Fresh => fresh(alloc)?,

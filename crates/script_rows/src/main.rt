@@ -2,7 +2,7 @@
 //! otherwise.
 //!
 //! The first line of a script says where it begins: `fresh` with an empty database, `blank` with no database, or
-//! `again` with what the script before left. Behind that word stands its name. The other lines are in `script.rt`.
+//! `again` with what the script before left. After that word comes its name. The other lines are in `script.rt`.
 #![tactic(auto)]
 
 mod cells;

@@ -1,4 +1,5 @@
-// Runs of the program over a directory.
+//! Runs of the program over a directory.
+
 ghost use Rattle.std.specs.Prelude.{IfOk};
 ghost use Rattle.db_top.specs.Lending.{IsIdle};
 
@@ -69,7 +70,7 @@ pub fn ran(
         yard: MemoryYard::new(alloc, meter.share()?),
     };
     let mut world = world(alloc, input, piece, faults)?;
-    world.stand("d", store)?;
+    world.store_at("d", store)?;
     let words = words_of(alloc, words)?;
     let code = run(&(), alloc, &words, &mut world).code();
     Ok(Ended {
@@ -93,7 +94,7 @@ pub fn fresh(alloc: Global) -> Result<Logs, AllocError> {
     logs_behind(alloc, &ended, 0)
 }
 
-/// A number that is counted behind the device calls of the opening.
+/// A number that is counted from the end of the device calls of the opening.
 fn behind(opening: u64, call: Option<u64>) -> Option<u64> {
     Some(opening.saturating_add(call?))
 }
@@ -113,7 +114,7 @@ pub fn calls_before(alloc: Global, logs: &Logs, script: &Script) -> Result<u64, 
     }
 }
 
-/// What the script asks, over these logs. The device calls of its faults are counted behind so many others.
+/// What the script asks, over these logs. The device calls of its faults are counted after so many others.
 pub fn ran_script(
     alloc: Global,
     logs: &Logs,

@@ -1,4 +1,5 @@
-// What the lines of a script say.
+//! What the lines of a script say.
+
 use crate::cells::bytes_of;
 use std::alloc::{AllocError, Global};
 
@@ -12,7 +13,7 @@ pub enum Begin {
 }
 
 /// Which call of each kind fails, counted from 0, and after how many device calls the disk stops. Device calls are
-/// counted behind those of the opening.
+/// counted after those of the opening.
 #[derive(Clone, Copy, Debug)]
 pub struct Faults {
     pub read: Option<u64>,
@@ -39,17 +40,17 @@ pub struct Script {
     pub faults: Faults,
     /// `log NAME HEX`: what a log holds before the run.
     pub logs: Vec<Log>,
-    /// `landed N`: so many bytes of each change that isn't sure are there behind the run.
+    /// `landed N`: so many bytes of each change that isn't sure are there after the run.
     pub landed: u64,
     /// `< LINE`: what the client is told.
     pub told: Vec<u8>,
     /// `prints LINE`, and `status N`.
     pub printed: Vec<u8>,
     pub status: u64,
-    /// `leaves NAME HEX`: what a log holds behind the run.
+    /// `leaves NAME HEX`: what a log holds after the run.
     pub leaves: Vec<Log>,
     /// `sweep N LINE`: the disk stops at each device call in turn, and where 0, N, 2N and more bytes of what isn't sure
-    /// are there, this line is answered as behind the lines that were acknowledged, or one more.
+    /// are there, the reply to this line is that after the lines that were acknowledged, or one more.
     pub sweep: Option<u64>,
     pub question: Vec<u8>,
     /// How many lines are none of these, nor a comment, which begins with `#`.
@@ -165,7 +166,7 @@ fn add_many(out: &mut Vec<u8>, count: u64) -> Result<(), AllocError> {
     Ok(())
 }
 
-/// The byte of two hexadecimal digits at the head of some, and those behind it.
+/// The byte of two hexadecimal digits at the head of some, and those after it.
 fn byte_of(digits: &str) -> Option<(u8, &str)> {
     let (head, rest) = digits.split_at_checked(2)?;
     Some((u8::from_str_radix(head, 16).ok()?, rest))

@@ -1,4 +1,5 @@
-// Stops at each device call of a script, and what is found behind them.
+//! Stops at each device call of a script, and what is found after them.
+
 use crate::directory::Logs;
 use crate::running::{Ended, logs_behind, opening, ran, ran_script, told};
 use crate::script::{Faults, Script, no_faults};
@@ -27,10 +28,10 @@ fn lines_of(input: &[u8]) -> usize {
     input.iter().filter(|byte| **byte == b'\n').count()
 }
 
-/// What a question is answered, in turn.
+/// The answers to a question, in turn.
 type Answers = Vec<Vec<u8>>;
 
-/// What the question of a script is answered behind its first so many lines.
+/// The answer to the question of a script after its first so many lines.
 fn wanted(
     alloc: Global,
     script: &Script,
@@ -49,7 +50,7 @@ fn wanted(
     Ok(answer)
 }
 
-/// What the question of a script is answered behind its first lines, none, one, two and so on up to all.
+/// The answers to the question of a script after its first lines: none, one, two and so on up to all.
 fn all_wanted(alloc: Global, script: &Script, logs: &Logs) -> Result<Answers, AllocError> {
     let mut answers = Vec::new(alloc);
     for count in 0..=lines_of(&script.input) {
@@ -58,13 +59,13 @@ fn all_wanted(alloc: Global, script: &Script, logs: &Logs) -> Result<Answers, Al
     Ok(answers)
 }
 
-/// What the question is answered over these logs.
+/// The answer to the question over these logs.
 fn answer(alloc: Global, script: &Script, logs: &Logs) -> Result<Vec<u8>, AllocError> {
     let ended = ran(alloc, logs, "/run/d/", &script.question, 4096, no_faults())?;
     told(&ended).to_vec(alloc)
 }
 
-/// Whether an answer is the one behind so many lines, or behind one more.
+/// Whether an answer is the one after so many lines, or after one more.
 fn is_answer(answers: &Answers, count: usize, found: &[u8]) -> bool {
     answers
         .iter()
@@ -76,7 +77,7 @@ fn is_answer(answers: &Answers, count: usize, found: &[u8]) -> bool {
 /// More images than a stop leaves in any script.
 const MOST: u64 = 1_000;
 
-/// Whether each image behind a stop shows the lines that were acknowledged, or one more. The images are those where 0
+/// Whether each image after a stop shows the lines that were acknowledged, or one more. The images are those where 0
 /// bytes, a step, two and so on of what isn't sure are there, up to the first that is like the one before.
 fn shows(
     alloc: Global,
@@ -101,7 +102,7 @@ fn shows(
     Ok(false)
 }
 
-/// The stops of a script behind which something else is found, a line each.
+/// The stops of a script after which something else is found, a line each.
 pub fn swept(alloc: Global, script: &Script, logs: &Logs, step: u64) -> Result<String, AllocError> {
     let mut out = String::new(alloc);
     let opening = opening(alloc, logs)?;

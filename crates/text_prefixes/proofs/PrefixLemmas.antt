@@ -10,7 +10,8 @@ pub begins_with_less : (IsText : List ℕ → Type 0) (front more : List ℕ) �
 begins_with_less IsText front more (behind, is) = (more ++ behind, subst IsText (append_assoc front more behind) is)
 
 -- a prefix of a prefix
-pub take_more : (bytes : List ℕ) (n more : ℕ) → n ≤ more → take more bytes ≡ take n bytes ++ take (more - n) (drop n bytes)
+pub take_more : (bytes : List ℕ) (n more : ℕ) → n ≤ more
+    → take more bytes ≡ take n bytes ++ take (more - n) (drop n bytes)
 take_more bytes n more le =
     let sum : more ≡ n + (more - n) = omega arith in
     ap (λ (k : ℕ). take k bytes) sum ∙ take-add n (more - n) bytes

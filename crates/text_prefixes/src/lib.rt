@@ -1,3 +1,3 @@
-//! Prefixes of bytes that begin a text of a language, whatever the language: how far bytes fit it. Definitions alone;
-//! the law that one prefix at most is the longest stands in proofs/, and each crate states it of its own language.
+//! Prefixes of bytes that begin a text of a language, for any language: how far bytes fit it. The crate has definitions
+//! alone, and a lemma in proofs/: at most one prefix is the longest. Each crate above states it of its own language.
 #![tactic(auto)]

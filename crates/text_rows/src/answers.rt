@@ -1,4 +1,5 @@
-// The kinds of rows.
+//! The kinds of rows.
+
 use crate::bodies::{document, entry, root};
 use crate::cells::bytes_of;
 use crate::queries::{bounds, check, leaps, near, starts, verdict};

@@ -1,4 +1,5 @@
-// The bytes of documents, entries and roots: what they say, where writing it gives them back.
+//! The bytes of documents, entries and roots: what they say, where writing it gives them back.
+
 use crate::places::kind_name;
 use doc_model::{Document, Entry, Op, Ops};
 use journal_bodies::{Root, commit_body, read_entry, read_root, root_body};

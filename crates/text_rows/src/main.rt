@@ -1,5 +1,5 @@
 //! Runs the rows of standard input, each a case `KIND | INPUT | .. | ANSWER`, and prints those whose answer is another
-//! one. In a cell `\xNN` is the byte of these two hexadecimal digits, and all else stands for itself.
+//! one. In a cell `\xNN` is the byte of these two hexadecimal digits, and all else is itself.
 #![tactic(auto)]
 
 mod answers;

@@ -1,4 +1,5 @@
-// Documents, range indexes and lists of starts, as the cells of rows say them.
+//! Documents, range indexes and lists of starts, as the cells of rows say them.
+
 use doc_model::{Document, Indexes, Kind, Text, Texts};
 use sqlite_items::Items;
 use std::alloc::{AllocError, Global};
@@ -67,7 +68,7 @@ fn numbers(alloc: Global, text: &str) -> Result<Items<u64>, AllocError> {
     Ok(out)
 }
 
-/// The starts of children: the list of each stands between two strokes.
+/// The starts of children: the list of each between two strokes.
 pub fn lists(alloc: Global, cell: &str) -> Result<Items<Items<u64>>, AllocError> {
     let mut out = Items::new(alloc);
     for list in cell.strip_suffix('/').unwrap_or(cell).split('/').skip(1) {

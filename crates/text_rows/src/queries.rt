@@ -1,4 +1,5 @@
-// Queries on documents, their rules, and what is near.
+//! Queries on documents, their rules, and what is near.
+
 use crate::places::{indexes, kind_name, lists, placed};
 use doc_model::{Document, Query, QueryBad, check_query};
 use std::alloc::{AllocError, Global};

@@ -1,4 +1,5 @@
-// JSON texts, texts of queries, and words.
+//! JSON texts, texts of queries, and words.
+
 use doc_model::Texts;
 use std::alloc::{AllocError, Global};
 

@@ -1,4 +1,5 @@
-// The text of a query that no text says, so that no row can have it.
+//! The text of a query that no text says, so that no row can have it.
+
 use cts_text::write;
 use doc_model::{Compare, Query, Scalar, Scalars, Text, Texts};
 use std::alloc::{AllocError, Global};

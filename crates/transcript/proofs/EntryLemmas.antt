@@ -15,7 +15,7 @@ use Rattle.doc_meaning.specs.Replies.{unless_twice, unless_conflict, first_twice
 use Rattle.doc_meaning.specs.declared.replies.CommitReply.TheVariants as committed
 use Rattle.doc_meaning.specs.declared.replies.ForgetReply.TheVariants as forgot
 use Rattle.transcript.specs.Laws.{Enters, EntersAs, HistoryHasEachOnce, HistoryHasNoOthers}
-use Rattle.transcript.specs.Legal.{IsTurn, Answers, UnlessDown, is_stopped}
+use Rattle.transcript.specs.Legal.{IsTurn, AnswersEvent, UnlessDown, is_stopped}
 use Rattle.transcript.specs.Turns as turns
 use Rattle.transcript.specs.Turns.{Event, Answer, Turn, entries_of, history_of, down_of}
 
@@ -27,10 +27,10 @@ take_more [] k x is = absurd (none_is is)
 take_more (y ∷ xs) zero x is = let same : y ≡ x = cc in ap (λ (e : _). e ∷ []) same
 take_more (y ∷ xs) (suc k) x is = ap (λ (l : List _). y ∷ l) (take_more xs k x is)
 
--- what one element of a list adds stands behind what those before it add
-pub stands : {X Y : Type 0} (f : X → List Y) (xs : List X) (k : ℕ) (x : X) (y : Y) → slice_get xs k ≡ Some x → f x ≡ y ∷ [] →
+-- what one element of a list adds is behind what those before it add
+pub added_at : {X Y : Type 0} (f : X → List Y) (xs : List X) (k : ℕ) (x : X) (y : Y) → slice_get xs k ≡ Some x → f x ≡ y ∷ [] →
     slice_get (flat_map f xs) (length (flat_map f (take k xs))) ≡ Some y
-stands {X} {Y} f xs k x y here adds =
+added_at {X} {Y} f xs k x y here adds =
     let lt = slice_get_within xs k x here in
     let split : xs ≡ take k xs ++ x ∷ drop (suc k) xs =
     sym (take-append-drop k xs) ∙ ap (λ (l : List X). take k xs ++ l) (drop-cons xs k x lt ∙
@@ -80,7 +80,7 @@ commit_at base longest before turn ops at asks says legal =
     (λ failed. let fails = failed.0 in absurd (cc))
     (answered true (down_of before) turn.answer (λ n e. absurd (cc))
     (subst (λ (c : Event). UnlessDown (is_stopped c) (down_of before) turn.answer
-    (Answers base longest before c turn.answer)) asks is)))
+    (AnswersEvent base longest before c turn.answer)) asks is)))
     legal.answers
 
 forget_at : (base : Base) (longest : ℕ) (before : List Turn) (turn : Turn) (to at : ℕ) →
@@ -95,7 +95,7 @@ forget_at base longest before turn to at asks says legal =
     (λ failed. let fails = failed.0 in absurd (cc))
     (answered true (down_of before) turn.answer (λ n e. absurd (cc))
     (subst (λ (c : Event). UnlessDown (is_stopped c) (down_of before) turn.answer
-    (Answers base longest before c turn.answer)) asks is)))
+    (AnswersEvent base longest before c turn.answer)) asks is)))
     legal.answers
 
 -- it makes its entry, at the timestamp behind those before it
@@ -119,7 +119,7 @@ history_has_each_once base longest list k at turn made legal here is =
     ∙ (ap (λ (es : List Entry). base.front + length es) adds
     ∙ omega (arith, length-append (flat_map f (take k list)) (made ∷ []))) in
     let place : at - 1 - base.front ≡ length (flat_map f (take k list)) = omega (arith, next) in
-    (next, next ∙ sym more, ap (λ (n : ℕ). slice_get (flat_map f list) n) place ∙ stands f list k turn made here makes)
+    (next, next ∙ sym more, ap (λ (n : ℕ). slice_get (flat_map f list) n) place ∙ added_at f list k turn made here makes)
 
 -- what a turn makes: no entry, or one
 pub makes : (call : Event) (answer : Answer)

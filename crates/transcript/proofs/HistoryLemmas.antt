@@ -19,7 +19,7 @@ use Rattle.doc_meaning.specs.declared.replies.CommitReply.TheVariants as committ
 use Rattle.doc_meaning.specs.declared.replies.ForgetReply.TheVariants as forgot
 use Rattle.transcript.proofs.EntryLemmas.{answered, entries_by, makes, take_more}
 use Rattle.transcript.specs.Laws.{EntersAs, LegalTurnsMakeAHistory}
-use Rattle.transcript.specs.Legal.{AreLegal, Answers, IsAsked, IsTurn, UnlessDown, is_stopped}
+use Rattle.transcript.specs.Legal.{AreLegal, AnswersEvent, IsAsked, IsTurn, UnlessDown, is_stopped}
 use Rattle.transcript.specs.Turns as turns
 use Rattle.transcript.specs.Turns.{Event, Turn, down_of, history_of}
 
@@ -44,12 +44,12 @@ module _ (base : Base) (longest : ℕ) (before : List Turn) (turn : Turn) (legal
 
   -- what a turn that is stopped by a log fault may be answered, where it was no want of memory and not stopped
   defined : (call : Event) → turn.call ≡ call → (turn.answer ≡ turns.memory → ⊥) →
-      ((n : ℕ) → turn.answer ≡ turns.down n → ⊥) → Answers base longest before call turn.answer
+      ((n : ℕ) → turn.answer ≡ turns.down n → ⊥) → AnswersEvent base longest before call turn.answer
   defined call asks known going =
       ⊎_elim (λ lacks. absurd (known lacks.1))
       (λ is. answered (is_stopped call) (down_of before) turn.answer going
       (subst (λ (c : Event). UnlessDown (is_stopped c) (down_of before) turn.answer
-      (Answers base longest before c turn.answer)) asks is))
+      (AnswersEvent base longest before c turn.answer)) asks is))
       legal.answers
 
   -- an accepted commit keeps the rules of an entry

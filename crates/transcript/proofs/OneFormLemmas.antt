@@ -10,7 +10,7 @@ use Rattle.transcript.specs.declared.command.When.{When}
 use Rattle.transcript.specs.declared.command.When.TheVariants.{Front, At, Pinned}
 use Rattle.transcript.proofs.FormLemmas.{word_once, spaced, decimal_clean, timestamp_small, same_kind, IsAlike, alike}
 
--- two timestamps, and what stands behind them
+-- two timestamps, and what is behind them
 pub when_once : (v w : When) (x y : List ℕ) → IsWhen v → IsWhen w → length (when_words v) ≡ length (when_words w) →
     spaced_out (when_words v) ++ x ≡ spaced_out (when_words w) ++ y → (v ≡ w) × (x ≡ y)
 when_once Front Front x y p q len eq = (refl, eq)

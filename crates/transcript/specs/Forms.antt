@@ -1,4 +1,4 @@
--- The forms of a line: what stands in a line of each, and its text.
+-- The forms of a line: what a line of each holds, and its text.
 use Rattle.std.specs.Prelude.{ℕ, ◌≡◌, ◌≢◌, ◌<◌, ◌≤◌, List, [], ◌∷◌, ◌++◌, length, All, codes}
 use Rattle.std.specs.Fmt.{decimal}
 use Rattle.std.specs.List.{flat_map}
@@ -7,7 +7,7 @@ use Rattle.doc_meaning.specs.Replies.{last_timestamp}
 use Rattle.transcript.specs.declared.command.When.{When}
 use Rattle.transcript.specs.declared.command.When.TheVariants.{Front, At, Pinned}
 
--- what stands in a line: a URI, a timestamp, and JSON, which is the rest of the line, even an empty one
+-- what a line holds: a URI, a timestamp, and JSON, which is the rest of the line, even an empty one
 pub data Form : Type 0 where
   put : (uri json : List ℕ) → Form
   remove : (uri : List ℕ) → Form

@@ -1,8 +1,9 @@
 -- The lines of a session's input.
 use Rattle.std.specs.Prelude.{ℕ, ◌≡◌, ◌≢◌, ◌<◌, ◌≤◌, ◌+◌, ◌-◌, ◌^◌, ◌⊎◌, ◌==◌, List, [], ◌∷◌, ◌++◌, length, take, slice_get, slice_index, All, Some, if◌then◌else◌}
 use Rattle.std.specs.List.{flat_map}
+use Rattle.transcript.specs.declared.limits.TheConstants.{LONGEST_LINE, MAX_LINES}
 
--- a line as it stands in the input: before a line feed, or the last one without it
+-- a line of the input: its bytes before a line feed, or the last one, without a line feed
 pub data Line : Type 0 where
   ended : List ℕ → Line
   last : List ℕ → Line
@@ -28,24 +29,16 @@ content (last bytes) = bytes
 abbrev pub HasNoFeed : List ℕ → Type 0
 HasNoFeed bytes = All (λ b. b ≢ 0x0A) bytes
 
--- the greatest length of a line before its line feed
-abbrev pub longest_line : ℕ
-longest_line = 4194304
-
--- the greatest number of lines of a session
-abbrev pub most_lines : ℕ
-most_lines = 2 ^ 40
-
 -- no line feed, and not too long
 abbrev pub IsLine : Line → Type 0
-IsLine line = HasNoFeed (bytes_of line) × (length (bytes_of line) ≤ longest_line)
+IsLine line = HasNoFeed (bytes_of line) × (length (bytes_of line) ≤ LONGEST_LINE)
 
 -- the input begins with the lines, and goes on behind them; only the last line of all may lack its line feed, and isn't
 -- empty then
-pub record Begins (input : List ℕ) (lines : List Line) (behind : List ℕ) : Type 0 where
+pub record BeginsWithLines (input : List ℕ) (lines : List Line) (behind : List ℕ) : Type 0 where
   pub spelled : input ≡ flat_map with_feed lines ++ behind
   pub each : All IsLine lines
-  pub few : length lines ≤ most_lines
+  pub few : length lines ≤ MAX_LINES
   pub only_last : (k : ℕ) (bytes : List ℕ) → slice_get lines k ≡ Some (last bytes) → (k + 1 ≡ length lines)
       × (behind ≡ []) × (0 < length bytes)
 
@@ -55,8 +48,8 @@ pub record IsLong (behind : List ℕ) : Type 0 where
   pub rest : List ℕ
   pub spelled : behind ≡ beginning ++ rest
   pub one_line : HasNoFeed beginning
-  pub too_long : longest_line < length beginning
+  pub too_long : LONGEST_LINE < length beginning
 
 -- the next line is past the limits: too long, or one too many
 abbrev pub IsPastLimits : List Line → List ℕ → Type 0
-IsPastLimits lines behind = IsLong behind ⊎ ((length lines ≡ most_lines) × (0 < length behind))
+IsPastLimits lines behind = IsLong behind ⊎ ((length lines ≡ MAX_LINES) × (0 < length behind))

@@ -116,7 +116,33 @@ pub data IsRefused (line : List ℕ) (kind : BadKind) (place : ℕ) : Type 0 whe
 -- the reply is such a refusal
 abbrev pub Refuses : List ℕ → Reply → Type 0
 Refuses line (reply.Bad kind place) = IsRefused line kind place
-Refuses line _ = ⊥
+Refuses line (reply.Ok at) = ⊥
+Refuses line reply.Wished = ⊥
+Refuses line (reply.Doc created at latest collections root) = ⊥
+Refuses line (reply.NoDoc at latest) = ⊥
+Refuses line (reply.Found at latest uris) = ⊥
+Refuses line (reply.Estimate count at latest) = ⊥
+Refuses line (reply.Stamp latest merged) = ⊥
+Refuses line reply.Bye = ⊥
+Refuses line reply.Long = ⊥
+Refuses line reply.NoPin = ⊥
+Refuses line reply.Deep = ⊥
+Refuses line reply.Many = ⊥
+Refuses line reply.Directory = ⊥
+Refuses line reply.Near = ⊥
+Refuses line (reply.NoRange name kind) = ⊥
+Refuses line (reply.Old asked merged) = ⊥
+Refuses line (reply.New asked latest) = ⊥
+Refuses line (reply.Back t merged) = ⊥
+Refuses line (reply.Ahead t latest) = ⊥
+Refuses line (reply.Twice uri) = ⊥
+Refuses line (reply.Conflict uri found latest) = ⊥
+Refuses line (reply.Spent latest) = ⊥
+Refuses line reply.Down = ⊥
+Refuses line reply.Fault = ⊥
+Refuses line (reply.Damaged file place) = ⊥
+Refuses line reply.Memory = ⊥
+Refuses line reply.Later = ⊥
 
 -- a line of a form that isn't answered so far, whatever else is wrong with it
 abbrev pub ComesLater : List ℕ → Type 0

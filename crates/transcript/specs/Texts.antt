@@ -6,11 +6,11 @@ use Rattle.disk_model.specs.declared.file_name.FileName.{FileName}
 use Rattle.disk_model.specs.declared.file_name.FileName.TheVariants.{Log, Sealed}
 use Rattle.doc_model.specs.declared.indexes.Kind.{Kind}
 use Rattle.doc_model.specs.declared.indexes.Kind.TheVariants as kind
-use Rattle.transcript.specs.Lines.{longest_line}
 use Rattle.transcript.specs.declared.reply.BadKind.{BadKind}
 use Rattle.transcript.specs.declared.reply.BadKind.TheVariants as bad
 use Rattle.transcript.specs.declared.reply.Reply.{Reply}
 use Rattle.transcript.specs.declared.reply.Reply.TheVariants as reply
+use Rattle.transcript.specs.declared.limits.TheConstants.{LONGEST_LINE}
 
 abbrev pub ended : List ℕ → List ℕ
 ended text = text ++ 0x0A ∷ []
@@ -59,7 +59,7 @@ text_of (reply.Found at front uris) =
 text_of (reply.Estimate count at front) = line_of (codes "estimate") (decimal count ∷ at_of at front)
 text_of (reply.Stamp front merge) = line_of (codes "stamp") (decimal front ∷ codes "merge" ∷ decimal merge ∷ [])
 text_of reply.Bye = ended (codes "bye")
-text_of reply.Long = line_of (codes "bad") (codes "long" ∷ decimal longest_line ∷ [])
+text_of reply.Long = line_of (codes "bad") (codes "long" ∷ decimal LONGEST_LINE ∷ [])
 text_of (reply.Bad kind place) = line_of (codes "bad") (bad_text kind ∷ decimal place ∷ [])
 text_of reply.NoPin = ended (codes "nopin")
 text_of reply.Deep = line_of (codes "bad") (codes "deep" ∷ decimal 32 ∷ [])

@@ -5,7 +5,7 @@ use Rattle.std.specs.Option.{option_map_or}
 use Rattle.doc_meaning.specs.History.{Base, History, front, merge}
 use Rattle.transcript.specs.Answers.{reply_to_commit, reply_to_forget, reply_to_revive, reply_to_get, reply_to_search, reply_to_estimate, reads_of}
 use Rattle.transcript.specs.Commands.{Asks}
-use Rattle.transcript.specs.Lines.{Line, last, content, Begins, HasNoFeed, IsPastLimits, longest_line}
+use Rattle.transcript.specs.Lines.{Line, last, content, BeginsWithLines, HasNoFeed, IsPastLimits}
 use Rattle.transcript.specs.Refusals.{Refuses, IsLater}
 use Rattle.transcript.specs.Texts.{text_of}
 use Rattle.transcript.specs.Turns.{commit, forget, wish, revive, Answer, done, Turn}
@@ -19,6 +19,7 @@ use Rattle.transcript.specs.declared.reply.Reply.TheVariants as reply
 use Rattle.transcript.specs.declared.session_end.SessionEnd.{SessionEnd}
 use Rattle.transcript.specs.declared.session_end.SessionEnd.TheVariants as end
 use Rattle.transcript.specs.declared.wish.Wish.TheVariants.{Save, Merge}
+use Rattle.transcript.specs.declared.limits.TheConstants.{LONGEST_LINE}
 
 -- the state of a session between lines: the history that its pin saw, how many lines more the faults of its port
 -- excuse, and how many bytes of documents its lines may have read
@@ -43,37 +44,62 @@ AnswersRead base old asked Pinned used say answer new =
     (used ≡ []) × ReadsAt old asked old.pin (λ seen. say seen (front seen)) answer new
 
 -- how a command is answered, and the state behind it
-abbrev pub Answers : Base → SessionState → Command → List TurnAt → Reply → SessionState → Type 0
-Answers base old (command.Commit ops) used answer new =
+abbrev pub AnswersCommand : Base → SessionState → Command → List TurnAt → Reply → SessionState → Type 0
+AnswersCommand base old (command.Commit ops) used answer new =
     (found : Answer) × Uses used (commit ops) found × (Some answer ≡ reply_to_commit found) × (new ≡ old)
-Answers base old (command.Get uri when) used answer new =
+AnswersCommand base old (command.Get uri when) used answer new =
     AnswersRead base old (command.Get uri when) when used (reply_to_get uri) answer new
-Answers base old (command.Search q when) used answer new =
+AnswersCommand base old (command.Search q when) used answer new =
     AnswersRead base old (command.Search q when) when used (reply_to_search q) answer new
-Answers base old (command.Estimate q when) used answer new =
+AnswersCommand base old (command.Estimate q when) used answer new =
     AnswersRead base old (command.Estimate q when) when used (reply_to_estimate q) answer new
-Answers base old command.Stamp used answer new =
+AnswersCommand base old command.Stamp used answer new =
     (h : History) × Looks base used h × (answer ≡ reply.Stamp (front h) (merge h)) × (new ≡ old)
-Answers base old (command.Forget to) used answer new =
+AnswersCommand base old (command.Forget to) used answer new =
     (found : Answer) × Uses used (forget to) found × (Some answer ≡ reply_to_forget found) × (new ≡ old)
-Answers base old command.Pin used answer new =
+AnswersCommand base old command.Pin used answer new =
     (h : History) × Looks base used h × (answer ≡ reply.Ok (front h)) × (new ≡ record old { pin = Some h })
-Answers base old command.Unpin used answer new =
+AnswersCommand base old command.Unpin used answer new =
     (used ≡ []) × (answer ≡ option_map_or (λ h. reply.Ok (front h)) old.pin reply.NoPin)
     × (new ≡ record old { pin = None })
-Answers base old command.Save used answer new = Uses used (wish Save) done × (answer ≡ reply.Wished) × (new ≡ old)
-Answers base old command.Merge used answer new = Uses used (wish Merge) done × (answer ≡ reply.Wished) × (new ≡ old)
-Answers base old command.Revive used answer new =
+AnswersCommand base old command.Save used answer new = Uses used (wish Save) done × (answer ≡ reply.Wished) × (new ≡ old)
+AnswersCommand base old command.Merge used answer new = Uses used (wish Merge) done × (answer ≡ reply.Wished) × (new ≡ old)
+AnswersCommand base old command.Revive used answer new =
     (found : Answer) × Uses used revive found × (Some answer ≡ reply_to_revive found) × (new ≡ old)
-Answers base old command.Quit used answer new = (used ≡ []) × (answer ≡ reply.Bye) × (new ≡ old)
+AnswersCommand base old command.Quit used answer new = (used ≡ []) × (answer ≡ reply.Bye) × (new ≡ old)
 
--- whether a reply tells what documents hold, so that they may have been read for it
+-- whether a reply tells what documents hold, so that the session may have read them for it
 abbrev pub tells_documents : Reply → Bool
 tells_documents (reply.Found at latest uris) = true
 tells_documents (reply.Doc created at latest collections root) = true
-tells_documents _ = false
+tells_documents (reply.Ok at) = false
+tells_documents reply.Wished = false
+tells_documents (reply.NoDoc at latest) = false
+tells_documents (reply.Estimate count at latest) = false
+tells_documents (reply.Stamp latest merged) = false
+tells_documents reply.Bye = false
+tells_documents reply.Long = false
+tells_documents (reply.Bad kind place) = false
+tells_documents reply.NoPin = false
+tells_documents reply.Deep = false
+tells_documents reply.Many = false
+tells_documents reply.Directory = false
+tells_documents reply.Near = false
+tells_documents (reply.NoRange name kind) = false
+tells_documents (reply.Old asked merged) = false
+tells_documents (reply.New asked latest) = false
+tells_documents (reply.Back t merged) = false
+tells_documents (reply.Ahead t latest) = false
+tells_documents (reply.Twice uri) = false
+tells_documents (reply.Conflict uri found latest) = false
+tells_documents (reply.Spent latest) = false
+tells_documents reply.Down = false
+tells_documents reply.Fault = false
+tells_documents (reply.Damaged file place) = false
+tells_documents reply.Memory = false
+tells_documents reply.Later = false
 
--- the bytes of a sealed file that doesn't tell them aren't the document that stood there; no file is read so far
+-- a sealed file has other bytes than the document that was written there; no file is read so far
 abbrev pub IsDamage : Reply → Type 0
 IsDamage answer = ⊥
 
@@ -81,20 +107,29 @@ IsDamage answer = ⊥
 abbrev pub IsExcused : Base → SessionState → Command → List TurnAt → Reply → SessionState → Type 0
 IsExcused base old asked used answer new =
     (instead : Reply) × IsTrue (tells_documents instead)
-    × (((answer ≡ reply.Fault) × Answers base old asked used instead (record new { faults_left = new.faults_left + 1 }))
-    ⊎ (IsDamage answer × Answers base old asked used instead new))
+    × (((answer ≡ reply.Fault) × AnswersCommand base old asked used instead (record new { faults_left = new.faults_left + 1 }))
+    ⊎ (IsDamage answer × AnswersCommand base old asked used instead new))
 
 -- whether a command uses a look
 abbrev pub uses_look : Command → Bool
+uses_look (command.Commit ops) = false
+uses_look (command.Get uri Front) = true
+uses_look (command.Get uri (At t)) = true
 uses_look (command.Get uri Pinned) = false
+uses_look (command.Search q Front) = true
+uses_look (command.Search q (At t)) = true
 uses_look (command.Search q Pinned) = false
+uses_look (command.Estimate q Front) = true
+uses_look (command.Estimate q (At t)) = true
 uses_look (command.Estimate q Pinned) = false
-uses_look (command.Get uri when) = true
-uses_look (command.Search q when) = true
-uses_look (command.Estimate q when) = true
 uses_look command.Stamp = true
+uses_look (command.Forget to) = false
 uses_look command.Pin = true
-uses_look _ = false
+uses_look command.Unpin = false
+uses_look command.Save = false
+uses_look command.Merge = false
+uses_look command.Revive = false
+uses_look command.Quit = false
 
 -- the history at which a command reads: that of its look, or that of the pin
 abbrev pub ReadsFrom : Base → SessionState → Command → List TurnAt → History → Type 0
@@ -102,11 +137,11 @@ ReadsFrom base old asked used h =
     (IsTrue (uses_look asked) × ((found : Answer) × UsesLookAt base used h found))
     ⊎ (IsFalse (uses_look asked) × (used ≡ []) × (old.pin ≡ Some h))
 
--- want of memory is free where a line used no turn or a look; what it read until then counts. That of another turn is
--- its own answer
+-- want of memory is free where a line used no turn or a look, and doesn't ask to quit; what it read until then counts.
+-- Another turn answers its own want of memory
 abbrev pub LacksMemory : Base → List ℕ → SessionState → List TurnAt → Reply → SessionState → Type 0
 LacksMemory base line old used answer new =
-    (answer ≡ reply.Memory)
+    (answer ≡ reply.Memory) × (Asks line command.Quit → ⊥)
     × (((used ≡ []) × (new ≡ old))
     ⊎ ((asked : Command) × (h : History) × Asks line asked × ReadsFrom base old asked used h
     × (new ≡ record old { reads = old.reads + reads_of asked h })))
@@ -117,24 +152,24 @@ AnswersLine base old [] used answer new = (used ≡ []) × (answer ≡ None) × 
 AnswersLine base old line used None new = ⊥
 AnswersLine base old line used (Some answer) new =
     ((asked : Command) × Asks line asked
-    × (Answers base old asked used answer new ⊎ IsExcused base old asked used answer new))
+    × (AnswersCommand base old asked used answer new ⊎ IsExcused base old asked used answer new))
     ⊎ ((Refuses line answer ⊎ IsLater line answer) × (used ≡ []) × (new ≡ old))
     ⊎ LacksMemory base line old used answer new
 
 -- a line that was served: the turns that it used, and its reply
-pub record Served : Type 0 where
+pub record ServedLine : Type 0 where
   pub line : Line
   pub used : List TurnAt
   pub answer : Option Reply
 
 -- the lines are answered in turn
-abbrev pub AnswersLines : Base → SessionState → List Served → SessionState → Type 0
+abbrev pub AnswersLines : Base → SessionState → List ServedLine → SessionState → Type 0
 AnswersLines base old [] new = new ≡ old
 AnswersLines base old (first ∷ others) new =
     (mid : SessionState) × AnswersLine base old (content first.line) first.used first.answer mid
     × AnswersLines base mid others new
 
-abbrev pub lines_of : List Served → List Line
+abbrev pub lines_of : List ServedLine → List Line
 lines_of served = map (λ s. s.line) served
 
 -- the text of a reply, none where there is none
@@ -142,7 +177,7 @@ abbrev pub text_of_answer : Option Reply → List ℕ
 text_of_answer answer = option_map_or text_of answer []
 
 -- the texts of the replies, in order
-abbrev pub texts_of : List Served → List (List ℕ)
+abbrev pub texts_of : List ServedLine → List (List ℕ)
 texts_of served = map (λ s. text_of_answer s.answer) served
 
 abbrev pub together : List (List ℕ) → List ℕ
@@ -176,7 +211,7 @@ Ends end.End lines behind texts output = AllStay lines × (behind ≡ []) × (ou
 Ends end.Long lines behind texts output =
     AllStay lines × IsPastLimits lines behind × (output ≡ together texts ++ text_of reply.Long)
 Ends end.ReadFault lines behind texts output =
-    AllStay lines × HasNoFeed behind × (length behind ≤ longest_line) × (output ≡ together texts)
+    AllStay lines × HasNoFeed behind × (length behind ≤ LONGEST_LINE) × (output ≡ together texts)
 Ends end.WriteFault lines behind texts output =
     ((AllStay lines ⊎ LastQuits lines) × IsCut texts output)
     ⊎ (AllStay lines × IsPastLimits lines behind × IsCut (texts ++ text_of reply.Long ∷ []) output)
@@ -203,10 +238,10 @@ pub record Session : Type 0 where
 -- the session agrees with the turns of a run over a base: there are lines that its input begins with, answered in turn,
 -- which use the turns of its author in order, each once and none left over, and its output is their replies
 pub record Agrees (base : Base) (turns : List Turn) (session : Session) : Type 0 where
-  pub served : List Served
+  pub served : List ServedLine
   pub behind : List ℕ
   pub final : SessionState
-  pub lines : Begins session.input (lines_of served) behind
+  pub lines : BeginsWithLines session.input (lines_of served) behind
   pub over : IsOver session.how (lines_of served) session.over
   pub used : turns_of session.author turns ≡ flat_map (λ s. s.used) served
   pub answers : AnswersLines base (record { pin = None; faults_left = session.faults; reads = 0 }) served final

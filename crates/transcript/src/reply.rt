@@ -1,13 +1,13 @@
 use disk_model::FileName;
 use doc_model::{Kind, Text, Texts};
 
-/// What a line is answered.
+/// The reply to a line.
 #[derive(Debug, Drop)]
 pub enum Reply {
     /// The timestamp of a new entry, or the front.
     Ok(u64),
     Wished,
-    /// The collections and the root are the JSON texts that are written.
+    /// The collections and the root are JSON texts, written as they are.
     Doc {
         created: u64,
         at: u64,
@@ -36,7 +36,7 @@ pub enum Reply {
     Bye,
     /// The line passes the limits.
     Long,
-    /// The line has a fault: a byte of it, or the number of a node.
+    /// The line is invalid: `place` is the byte offset in it, or for `Query` and `Ops` the number of a node.
     Bad {
         kind: BadKind,
         place: u64,
@@ -46,7 +46,7 @@ pub enum Reply {
     Many,
     Directory,
     Near,
-    /// The name is the JSON text that is written.
+    /// The name is a JSON text, written as it is.
     NoRange {
         name: Text,
         kind: Kind,

@@ -11,6 +11,6 @@ pub enum SessionEnd {
     ReadFault,
     /// At a write that failed.
     WriteFault,
-    /// Before the first read, for want of memory.
+    /// Before the first read: the buffers found no memory.
     Memory,
 }

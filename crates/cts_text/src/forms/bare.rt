@@ -1,4 +1,5 @@
-// trueQuery and falseQuery, which have no members.
+//! trueQuery and falseQuery, which have no members.
+
 ghost use Rattle.std.specs.Prelude.{◌≡◌, [], IfOk};
 ghost use Rattle.cts_meaning.specs.Canonical.{query_object};
 

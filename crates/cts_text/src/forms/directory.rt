@@ -1,4 +1,5 @@
-// directoryQuery.
+//! directoryQuery.
+
 ghost use Rattle.std.specs.Prelude.{◌≡◌, ◌++◌, ◌∷◌, codes, IfOk};
 ghost use Rattle.std.specs.List.{list_all};
 ghost use Rattle.cts_meaning.specs.Canonical.{only_if, query_object, texts_node};

@@ -1,4 +1,5 @@
-// jsonPropertyValueQuery.
+//! jsonPropertyValueQuery.
+
 ghost use Rattle.std.specs.Prelude.{◌≡◌, ◌++◌, ◌∷◌, codes, IfOk};
 ghost use Rattle.std.specs.List.{list_all};
 ghost use Rattle.cts_meaning.specs.Canonical.{case_options, option_if, options_member, query_object, scalars_node, texts_node};

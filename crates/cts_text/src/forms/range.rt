@@ -1,4 +1,5 @@
-// jsonPropertyRangeQuery.
+//! jsonPropertyRangeQuery.
+
 ghost use Rattle.std.specs.Prelude.{◌≡◌, ◌∷◌, [], codes, IfOk};
 ghost use Rattle.std.specs.List.{list_all};
 ghost use Rattle.cts_meaning.specs.Canonical.{query_object, scalars_node, texts_node};

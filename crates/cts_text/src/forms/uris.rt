@@ -1,4 +1,5 @@
-// collectionQuery and documentQuery, whose text differs in the name alone.
+//! collectionQuery and documentQuery, whose text differs in the name alone.
+
 ghost use Rattle.std.specs.Prelude.{◌≡◌, ◌∷◌, [], codes, IfOk};
 ghost use Rattle.std.specs.List.{list_all};
 ghost use Rattle.cts_meaning.specs.Canonical.{query_object, texts_node};

@@ -1,4 +1,5 @@
-// wordQuery.
+//! wordQuery.
+
 ghost use Rattle.std.specs.Prelude.{◌≡◌, ◌∷◌, codes, IfOk};
 ghost use Rattle.std.specs.List.{list_all};
 ghost use Rattle.cts_meaning.specs.Canonical.{case_options, options_member, query_object, texts_node};

@@ -1,8 +1,9 @@
-// The calls of a world in memory.
+//! The calls of a world in memory.
+
 ghost use Rattle.std.specs.Prelude.{◌≡◌, ◌≢◌, ◌<◌, List, ℕ, length, Some, OnOk, IfSome};
 ghost use Rattle.disk_model.specs.Causes.{HasCause};
 ghost use Rattle.disk_model.specs.Worlds.{Returns};
-ghost use Rattle.disk_memory.specs.Worlds.{clients_of, stores_of, directories_of, standing, due_in};
+ghost use Rattle.disk_memory.specs.Worlds.{clients_of, stores_of, directories_of, stored_in, due_in};
 
 use super::{ClientSeat, MemoryClient, MemoryWorld, StoreSeat};
 use crate::disk::MemoryDisk;
@@ -28,7 +29,7 @@ impl World for MemoryWorld {
 
     ghost faults = { λ w. w.faults.count };
 
-    ghost stands = { λ w. standing w };
+    ghost stored = { λ w. stored_in w };
 
     ghost stores = { λ w. stores_of w };
 
@@ -67,10 +68,10 @@ impl World for MemoryWorld {
     fn put_store(&mut self, store: MemoryStore) -> Result<(), Failed>
         requires { length (stores_of self.old).back < length (stores_of self.old).out }
         ensures back { Returns result store (stores_of self.old) (stores_of self.new) }
-        ensures stands { OnOk result (IfSome (due_in self.old)
-            (λ dir. IfSome (standing self.new dir) (λ found. found ≡ Some store))) }
+        ensures stored { OnOk result (IfSome (due_in self.old)
+            (λ dir. IfSome (stored_in self.new dir) (λ found. found ≡ Some store))) }
         ensures others { (other : List ℕ) → due_in self.old ≢ Some other
-            → standing self.new other ≡ standing self.old other }
+            → stored_in self.new other ≡ stored_in self.old other }
         ensures directories { directories_of self.new ≡ directories_of self.old }
         ensures clients { clients_of self.new ≡ clients_of self.old }
         ensures printed { Some self.new.printed.items ≡ Some self.old.printed.items }
@@ -115,7 +116,7 @@ impl World for MemoryWorld {
         ensures back { Returns result client (clients_of self.old) (clients_of self.new) }
         ensures stores { stores_of self.new ≡ stores_of self.old }
         ensures directories { directories_of self.new ≡ directories_of self.old }
-        ensures stands { standing self.new ≡ standing self.old }
+        ensures stored { stored_in self.new ≡ stored_in self.old }
         ensures printed { Some self.new.printed.items ≡ Some self.old.printed.items }
         ensures cause { HasCause self.old.faults.count self.new.faults.count result }
     {

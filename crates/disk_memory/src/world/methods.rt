@@ -1,4 +1,5 @@
-// A world in memory as it is made and looked at.
+//! A world in memory as it is made and looked at.
+
 ghost use Rattle.std.specs.Prelude.{◌≡◌, ◌≢◌, List, [], ℕ, Some, None, OnOk, OnErr, slice_get};
 ghost use Rattle.std.specs.Option.{option_copied, option_and_then};
 ghost use Rattle.disk_memory.specs.Worlds.{none_handed};
@@ -17,7 +18,7 @@ impl MemoryWorld {
         ensures stores { ⟦<MemoryWorld as World>⟧.stores result ≡ none_handed }
         ensures directories { ⟦<MemoryWorld as World>⟧.directories result ≡ [] }
         ensures clients { ⟦<MemoryWorld as World>⟧.clients result ≡ none_handed }
-        ensures stands { (dir : List ℕ) → ⟦<MemoryWorld as World>⟧.stands result dir ≡ Some None }
+        ensures stored { (dir : List ℕ) → ⟦<MemoryWorld as World>⟧.stored result dir ≡ Some None }
         ensures printed { ⟦<MemoryWorld as World>⟧.printed result ≡ Some [] }
         ensures faults { ⟦<MemoryWorld as World>⟧.faults result ≡ 0 }
         ensures plan { (result.faults.plan ≡ plan) × (result.faults.calls ≡ 0) }
@@ -35,13 +36,13 @@ impl MemoryWorld {
         }
     }
 
-    /// Lets a store stand in a directory, in place of what stood there.
-    pub fn stand(&mut self, dir: &str, store: MemoryStore) -> Result<(), AllocError>
-        ensures stands { OnOk result (⟦<MemoryWorld as World>⟧.stands self.new dir.now ≡ Some (Some store)) }
+    /// Puts a store into a directory, in place of the one that was there.
+    pub fn store_at(&mut self, dir: &str, store: MemoryStore) -> Result<(), AllocError>
+        ensures stored { OnOk result (⟦<MemoryWorld as World>⟧.stored self.new dir.now ≡ Some (Some store)) }
         ensures broken { OnErr result
-            (⟦<MemoryWorld as World>⟧.stands self.new ≡ ⟦<MemoryWorld as World>⟧.stands self.old) }
+            (⟦<MemoryWorld as World>⟧.stored self.new ≡ ⟦<MemoryWorld as World>⟧.stored self.old) }
         ensures others { (other : List ℕ) → other ≢ dir.now
-            → ⟦<MemoryWorld as World>⟧.stands self.new other ≡ ⟦<MemoryWorld as World>⟧.stands self.old other }
+            → ⟦<MemoryWorld as World>⟧.stored self.new other ≡ ⟦<MemoryWorld as World>⟧.stored self.old other }
         ensures stores { ⟦<MemoryWorld as World>⟧.stores self.new ≡ ⟦<MemoryWorld as World>⟧.stores self.old }
         ensures directories { ⟦<MemoryWorld as World>⟧.directories self.new
             ≡ ⟦<MemoryWorld as World>⟧.directories self.old }
@@ -54,9 +55,9 @@ impl MemoryWorld {
         Ok(())
     }
 
-    /// The store that stands in a directory.
+    /// The store in a directory.
     pub fn store(&self, dir: &str) -> Option<&MemoryStore>
-        ensures { ⟦<MemoryWorld as World>⟧.stands self.now dir.now ≡ Some (option_copied result) }
+        ensures { ⟦<MemoryWorld as World>⟧.stored self.now dir.now ≡ Some (option_copied result) }
     {
         self.directories.get(dir)
     }

@@ -7,19 +7,19 @@ use crate::{Queries, Query};
 /// What is left of a budget once the queries, texts, names, values and URIs of a query are taken off.
 /// `None` says that they are more. It stops as soon as the budget is spent.
 #[cycle(count)]
-pub fn spend(query: &Query, left: u32) -> Option<u32>
+pub fn charge(query: &Query, left: u32) -> Option<u32>
     ensures { Leaves left (query_count query.now) result }
 {
     let left = left.checked_sub(1)?;
     match query {
         Query::True | Query::False => Some(left),
-        Query::And(queries) => spend_all(queries, left),
-        Query::Or(queries) => spend_all(queries, left),
-        Query::Near { queries, .. } => spend_all(queries, left),
-        Query::Not(query) => spend(query.get(), left),
+        Query::And(queries) => charge_all(queries, left),
+        Query::Or(queries) => charge_all(queries, left),
+        Query::Near { queries, .. } => charge_all(queries, left),
+        Query::Not(query) => charge(query.get(), left),
         Query::AndNot { positive, negative } => {
-            let left = spend(positive.get(), left)?;
-            spend(negative.get(), left)
+            let left = charge(positive.get(), left)?;
+            charge(negative.get(), left)
         }
         Query::Word { texts, .. } => take_off(left, texts.len()),
         Query::PropWord { names, texts, .. } => take_off(take_off(left, names.len())?, texts.len()),
@@ -36,12 +36,12 @@ pub fn spend(query: &Query, left: u32) -> Option<u32>
 }
 
 #[cycle(count)]
-fn spend_all(queries: &Queries, left: u32) -> Option<u32>
+fn charge_all(queries: &Queries, left: u32) -> Option<u32>
     ensures { Leaves left (sum_by query_count queries.now) result }
 {
     let mut rest = left;
     for query in queries.as_slice() {
-        rest = spend(query, rest)?;
+        rest = charge(query, rest)?;
     }
     Some(rest)
 }

@@ -4,7 +4,7 @@ ghost use Rattle.doc_model.specs.Queries.{kind_of, kinds_of};
 
 use crate::{Kind, Scalar, Scalars};
 
-/// The kinds of values that stand in a list, and which of them stands first.
+/// The kinds of the values of a list, and which of them comes first.
 #[derive(Clone, Copy, Debug)]
 pub enum Kinds {
     Neither,

@@ -1,68 +1,48 @@
-ghost use Rattle.std.specs.Prelude.{◌≡◌, ◌&&◌, false};
-ghost use Rattle.doc_model.specs.Queries.{near_fit, near_fit_of_all};
+ghost use Rattle.std.specs.Prelude.{◌≡◌};
+ghost use Rattle.std.specs.List.{list_all};
+ghost use Rattle.doc_model.specs.Queries.{fits, near_children_fit};
 
 use crate::{Queries, Query};
 
-/// Whether a query may be a child of near, and whether the children of each near in it may be.
-#[derive(Clone, Copy, Debug)]
-pub struct NearFit {
-    pub may_be_near: bool,
-    pub fits: bool,
+/// Whether the children of each near in a query may be there.
+pub fn near_children_fit(query: &Query) -> bool
+    ensures { result ≡ near_children_fit query.now }
+{
+    fits(query, false)
 }
 
-impl NearFit {
-    /// Whether queries of which all is so may be the children of near.
-    fn is_near_list(self) -> bool
-        ensures { result ≡ (self.may_be_near && self.fits) }
-    {
-        self.may_be_near && self.fits
-    }
-}
-
+/// Whether a query may be where it is: among the children of near, or elsewhere.
 #[cycle(near)]
-pub fn near_fit(query: &Query) -> NearFit
-    ensures { result ≡ near_fit query.now }
+fn fits(query: &Query, in_near: bool) -> bool
+    ensures { result ≡ fits query.now in_near }
 {
     match query {
-        Query::Word { .. } | Query::PropWord { .. } => NearFit {
-            may_be_near: true,
-            fits: true,
-        },
-        Query::Or(queries) => all_fit(queries),
-        Query::And(queries) => no_child(all_fit(queries).fits),
-        Query::Near { queries, .. } => no_child(all_fit(queries).is_near_list()),
-        Query::Not(query) => no_child(near_fit(query.get()).fits),
+        Query::Word { .. } | Query::PropWord { .. } => true,
+        Query::Or(queries) => all_fit(queries, in_near),
+        Query::Near { queries, .. } => !in_near && all_fit(queries, true),
+        Query::And(queries) => !in_near && all_fit(queries, false),
+        Query::Not(query) => !in_near && fits(query.get(), false),
         Query::AndNot { positive, negative } => {
-            let positive = near_fit(positive.get());
-            no_child(positive.fits && near_fit(negative.get()).fits)
+            !in_near && fits(positive.get(), false) && fits(negative.get(), false)
         }
-        _ => no_child(true),
+        Query::True
+        | Query::False
+        | Query::PropValue { .. }
+        | Query::Range { .. }
+        | Query::Collection(_)
+        | Query::Directory { .. }
+        | Query::DocUri(_) => !in_near,
     }
 }
 
-/// A query that may not be a child of near.
-fn no_child(fits: bool) -> NearFit
-    ensures { result ≡ record { may_be_near = false; fits = fits } }
-{
-    NearFit {
-        may_be_near: false,
-        fits,
-    }
-}
-
-/// The same of all of some queries.
 #[cycle(near)]
-fn all_fit(queries: &Queries) -> NearFit
-    ensures { result ≡ near_fit_of_all queries.now }
+fn all_fit(queries: &Queries, in_near: bool) -> bool
+    ensures { result ≡ list_all (λ q. fits q in_near) queries.now }
 {
-    let mut all = NearFit {
-        may_be_near: true,
-        fits: true,
-    };
     for query in queries.as_slice() {
-        let one = near_fit(query);
-        all.may_be_near = all.may_be_near && one.may_be_near;
-        all.fits = all.fits && one.fits;
+        if !fits(query, in_near) {
+            return false;
+        }
     }
-    all
+    true
 }

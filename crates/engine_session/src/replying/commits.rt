@@ -1,15 +1,16 @@
-// What a commit is answered.
+//! Replies to commits.
+
 ghost use Rattle.std.specs.Prelude.{◌≡◌};
 ghost use Rattle.engine_session.specs.Step.{said_of};
 
 use doc_engine::CommitRefusal;
 use transcript::Reply;
 
-// The reply that a commit's answer gives.
-pub(crate) fn said_of(answer: Result<u64, CommitRefusal>) -> Reply
-    ensures { result ≡ said_of answer }
+// The reply to a commit, by its result.
+pub(crate) fn said_of(committed: Result<u64, CommitRefusal>) -> Reply
+    ensures { result ≡ said_of committed }
 {
-    match answer {
+    match committed {
         Ok(at) => Reply::Ok(at),
         Err(CommitRefusal::Down { .. }) => Reply::Down,
         Err(CommitRefusal::Twice { uri }) => Reply::Twice { uri },

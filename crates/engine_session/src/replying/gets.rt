@@ -1,12 +1,13 @@
-// What a get is answered.
+//! Replies to gets.
+
 ghost use Rattle.std.specs.Prelude.{◌≡◌, ◌⊎◌, IfOk, map};
-ghost use Rattle.doc_engine.specs.Held.{view_of};
+ghost use Rattle.doc_engine.specs.EngineState.{view_of};
 ghost use Rattle.doc_model.specs.declared.node.Node.TheVariants as node;
 ghost use Rattle.engine_session.specs.Step.{got_of};
 ghost use Rattle.transcript.specs.Answers.{reply_of_version};
 ghost use Rattle.transcript.specs.declared.reply.Reply.TheVariants as reply;
 
-use doc_engine::Snapshot;
+use doc_engine::{Snapshot, TooOld};
 use doc_meaning::Version;
 use doc_model::{Node, Nodes, Text};
 use json_text::write;
@@ -19,8 +20,9 @@ pub(crate) fn get(alloc: Global, seen: &Snapshot<'_>, uri: &Text) -> Reply
 {
     let front = seen.stamp();
     match seen.get(uri) {
-        Some(version) => doc_of(alloc, version, front).unwrap_or(Reply::Memory),
-        None => Reply::NoDoc { at: front, front },
+        Ok(Some(version)) => doc_of(alloc, version, front).unwrap_or(Reply::Memory),
+        Ok(None) => Reply::NoDoc { at: front, front },
+        Err(TooOld { asked, merge }) => Reply::Old { asked, merge },
     }
 }
 

@@ -1,18 +1,19 @@
-// What a search is answered.
+//! Replies to searches.
+
 ghost use Rattle.std.specs.Prelude.{◌≡◌, ◌⊎◌};
-ghost use Rattle.doc_engine.specs.Held.{view_of};
+ghost use Rattle.doc_engine.specs.EngineState.{view_of};
 ghost use Rattle.engine_session.specs.Step.{found_of};
 ghost use Rattle.json_text.specs.Canonical.{quoted};
 ghost use Rattle.transcript.specs.Answers.{reply_to_bad};
 ghost use Rattle.transcript.specs.declared.reply.Reply.TheVariants as reply;
 
-use doc_engine::{SearchRefusal, Snapshot};
+use doc_engine::{SearchRefusal, Snapshot, TooOld};
 use doc_model::{Kind, Node, Query, QueryBad, Text};
 use json_text::write;
 use std::alloc::Global;
 use transcript::Reply;
 
-// What is found at the front, or the rule that the query breaks.
+// What is found at the front, or why it can't be searched.
 pub(crate) fn search(alloc: Global, seen: &Snapshot<'_>, query: &Query) -> Reply
     ensures { (result ≡ found_of (view_of seen.now) query.now) ⊎ (result ≡ reply.Memory) }
 {
@@ -24,6 +25,7 @@ pub(crate) fn search(alloc: Global, seen: &Snapshot<'_>, query: &Query) -> Reply
             uris,
         },
         Err(SearchRefusal::Query(why)) => refused(alloc, why),
+        Err(SearchRefusal::Old(TooOld { asked, merge })) => Reply::Old { asked, merge },
         Err(SearchRefusal::Memory) => Reply::Memory,
     }
 }

@@ -1,4 +1,5 @@
-// Commits that are refused.
+//! Commits that are refused.
+
 use super::{MemoryEngine, commit, empty};
 use crate::fixtures::put_text;
 use doc_engine::CommitRefusal;

@@ -1,4 +1,5 @@
-// A fault at the last device call of a put.
+//! A fault at the last device call of a put.
+
 use super::{MemoryEngine, commit, empty, meter, opened, reopened, smooth};
 use disk_memory::{MemoryDisk, Meter};
 use doc_engine::{CommitRefusal, Pending};

@@ -1,4 +1,5 @@
-// The calls of the real world.
+//! The calls of the real world.
+
 ghost use Rattle.std.specs.Prelude.{◌≡◌, ◌<◌, [], length, None, map, string_bytes};
 ghost use Rattle.disk_model.specs.Causes.{HasCause};
 ghost use Rattle.disk_model.specs.Worlds.{Returns};
@@ -38,7 +39,7 @@ impl SystemWorld {
         }
     }
 
-    // Opens and locks a directory, and makes what is missing of its logs. One that is left as missing gives a blank store.
+    // Opens and locks a directory, and makes its missing logs. A directory that is left as missing gives a blank store.
     fn open_store(&mut self, path: &str) -> Result<SystemStore, Failed>
         ensures stores { self.new.stores ≡ self.old.stores }
         ensures directories { self.new.directories ≡ self.old.directories }
@@ -101,7 +102,7 @@ impl World for SystemWorld {
 
     ghost faults = { λ w. w.count.faults };
 
-    ghost stands = { λ w dir. None };
+    ghost stored = { λ w dir. None };
 
     ghost stores = { λ w. seated w.stores };
 

@@ -1,5 +1,6 @@
-// Sealed files, sources and sinks.
-use super::{Fail, bytes_of, smooth};
+//! Sealed files, sources and sinks.
+
+use crate::fixtures::{Fail, smooth};
 use disk_memory::{MemoryFile, MemoryPort, MemorySink, MemorySource, MemoryYard, blank_store};
 use disk_model::{Build, Failed, Port, Sink, Source, Store, Yard};
 use std::alloc::Global;
@@ -41,7 +42,7 @@ fn a_removed_file_stays_readable(rt: HostRuntime) -> Result<(), Fail> {
 
 // How many bytes each of three reads gives of three bytes, of which two are given at a time.
 fn three_reads(alloc: Global) -> Result<(usize, usize, usize), Fail> {
-    let mut source = MemorySource::new(bytes_of(alloc, &[1, 2, 3])?, 2, smooth(alloc));
+    let mut source = MemorySource::new([1, 2, 3].to_vec(alloc)?, 2, smooth(alloc));
     let mut out = [0u8; 8];
     let first = source.read(&mut out)?;
     let second = source.read(&mut out)?;

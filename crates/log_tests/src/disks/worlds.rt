@@ -1,12 +1,14 @@
-// What a world hands out and takes back.
-use super::{Fail, append, bytes_of, content, smooth};
+//! What a world hands out and takes back.
+
+use super::{append, content};
+use crate::fixtures::{Fail, smooth};
 use disk_memory::{MemoryClient, MemoryPort, MemorySink, MemorySource, MemoryWorld};
 use disk_model::{Client, Sink, Store, World};
 use std::alloc::{AllocError, Global};
 use std::collections::VecDeque;
 
 fn client(alloc: Global) -> Result<MemoryClient, AllocError> {
-    let bytes = bytes_of(alloc, b"ab")?;
+    let bytes = b"ab".to_vec(alloc)?;
     Ok(Client {
         source: MemorySource::new(bytes, 2, smooth(alloc)),
         sink: MemorySink::new(alloc, smooth(alloc)),
@@ -39,7 +41,7 @@ fn taken(alloc: Global, world: &mut MemoryWorld) -> Result<Vec<u8>, Fail> {
 }
 
 #[test]
-fn a_store_stands_once_it_is_put_back(rt: HostRuntime) -> Result<(), Fail> {
+fn a_store_is_there_once_it_is_put_back(rt: HostRuntime) -> Result<(), Fail> {
     let alloc = rt.alloc();
     let mut world = with_store(alloc)?;
     assert!(rt; world.store("b").is_none());

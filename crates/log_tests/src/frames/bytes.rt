@@ -1,7 +1,9 @@
-// The bytes of a log.
+//! The bytes of a log.
+
 ghost use Rattle.std.specs.Prelude.{◌<◌, length};
 
-use super::{Fail, blank, left, meter, metered};
+use super::{blank, left};
+use crate::fixtures::{Fail, meter, metered};
 use disk_memory::{MemoryDisk, Meter};
 use disk_model::Disk;
 use frame_log::{Frame, Log, ScanRefusal, scan};
@@ -85,7 +87,7 @@ fn the_bytes_of_a_log(rt: HostRuntime) -> Result<(), Fail> {
     check_bodies(&rt, alloc, &mut disk)
 }
 
-// What a scan of these bytes answers: how many frames, or the place of the damage.
+// What a scan of these bytes returns: how many frames, or the place of the damage.
 fn found(alloc: Global, bytes: &[u8]) -> Result<Result<usize, u64>, Fail>
     requires { length bytes.now < 100 }
 {
@@ -111,7 +113,7 @@ fn check_ends(rt: &impl Abort, alloc: Global) -> Result<(), Fail> {
     Ok(())
 }
 
-// A gate that isn't open ends the frames, whatever stands behind it.
+// A gate that isn't open ends the frames, whatever is behind it.
 fn check_gates(rt: &impl Abort, alloc: Global) -> Result<(), Fail> {
     let one = found(alloc, b"\x4F\0\0\0\0\0\0\0\x02hi\x07\x4Frest")?;
     let none = found(alloc, b"\x4E\x4F")?;

@@ -1,7 +1,9 @@
-// Faults at each device call.
-ghost use Rattle.frame_log.specs.Standing.{IsWithin};
+//! Faults at each device call.
 
-use super::{Fail, blank, left, meter, metered};
+ghost use Rattle.frame_log.specs.LogStates.{IsWithin};
+
+use super::{blank, left};
+use crate::fixtures::{Fail, meter, metered};
 use disk_memory::{MemoryDisk, Meter};
 use disk_model::Disk;
 use frame_log::{Frame, Log, LogRefusal, scan};
@@ -14,7 +16,7 @@ fn check_down<D: Disk>(rt: &impl Abort, log: &mut Log, disk: &mut D, frame: &Fra
     ensures { IsWithin log.new (D.seen disk.new) }
 {
     assert_eq!(rt; log.append(disk, frame), Err(LogRefusal::Fault));
-    let touched = log.is_touched();
+    let touched = log.is_gate_unknown();
     assert!(rt; log.is_down());
     assert_eq!(rt; log.append(disk, frame), Err(LogRefusal::Down));
     assert_eq!(rt; log.reset(disk), Err(LogRefusal::Down));
@@ -77,7 +79,7 @@ fn each_fault_is_revived(rt: HostRuntime) -> Result<(), Fail> {
     Ok(())
 }
 
-// What a reset of one frame answers, and whether the log is empty after a revive.
+// What a reset of one frame returns, and whether the log is empty after a revive.
 fn reset_at_last(
     alloc: Global,
     disk: &mut MemoryDisk,

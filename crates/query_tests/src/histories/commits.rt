@@ -20,7 +20,7 @@ fn two_puts(alloc: Global) -> Result<History, Fail> {
     Ok(h)
 }
 
-/// What two more puts are answered, of which one expects the first version and one the second.
+/// The replies to two more puts: one expects the first version, one the second.
 fn stale_and_fresh(alloc: Global) -> Result<(CommitReply, CommitReply), Fail> {
     let mut h = two_puts(alloc)?;
     let stale = put_expecting(alloc, &mut h, Some(1))?;
@@ -55,7 +55,7 @@ fn told(reply: ForgetReply) -> (&'static str, u64, u64) {
     }
 }
 
-/// What a forget is answered.
+/// The reply to a forget.
 fn forget(h: &History, t: u64, full: bool) -> (&'static str, u64, u64) {
     told(h.forget_reply(t, full))
 }

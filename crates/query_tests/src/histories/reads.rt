@@ -6,7 +6,7 @@ use plain_history::{Database, History};
 use std::alloc::Global;
 use std::test::Fail;
 
-/// What getting `/v.json` at a timestamp is answered.
+/// The reply to getting `/v.json` at a timestamp.
 fn got(alloc: Global, h: &History, at: u64) -> Result<ReadReply<Option<Version>>, Fail> {
     let uri = Text::from_str(alloc, "/v.json")?;
     Ok(h.get_reply(alloc, at, &uri)?)

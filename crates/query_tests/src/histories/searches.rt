@@ -65,7 +65,7 @@ fn each_timestamp_keeps_its_database(rt: HostRuntime) -> Result<(), Fail> {
     Ok(())
 }
 
-/// What a search for `two` is answered at a timestamp.
+/// The reply to a search for `two` at a timestamp.
 fn search_for_two(alloc: Global, at: u64) -> Result<ReadReply<Texts>, Fail> {
     let h = one_two_gone(alloc)?;
     let query = word(alloc, "two")?;
@@ -83,7 +83,7 @@ fn foxes(alloc: Global) -> Result<History, Fail> {
     one_put(alloc, "/s.json", &[("a", "red fox"), ("b", "fox ran")])
 }
 
-/// What an estimate for `red fox ran` is answered.
+/// The reply to an estimate for `red fox ran`.
 fn estimate(alloc: Global, h: &History) -> Result<ReadReply<u64>, Fail> {
     let phrase = word(alloc, "red fox ran")?;
     Ok(h.estimate_reply(alloc, 1, &phrase)?)

@@ -1,4 +1,5 @@
-// Directories beside each other.
+//! Directories beside each other.
+
 ghost use Rattle.db_top.specs.Lending.{IsIdle};
 
 use super::worlds::{runs, told, world};

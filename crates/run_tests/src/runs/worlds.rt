@@ -1,4 +1,5 @@
-// Worlds in memory, and runs over them.
+//! Worlds in memory, and runs over them.
+
 ghost use Rattle.std.specs.Prelude.{IfOk};
 ghost use Rattle.db_top.specs.Lending.{IsIdle};
 

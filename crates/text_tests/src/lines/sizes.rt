@@ -1,4 +1,5 @@
-// A put whose document is at the limit on its size. Its line is longer than those of a session.
+//! A put whose document is at the limit on its size. Its line is longer than those of a session.
+
 use client_lines::{LineRefusal, read_line};
 use std::alloc::Global;
 use std::test::Fail;

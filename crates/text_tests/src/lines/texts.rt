@@ -1,4 +1,5 @@
-// The text of each reply that no session gives yet.
+//! The text of each reply that no session gives yet.
+
 ghost use Rattle.std.specs.Prelude.{None};
 
 use client_lines::{Outbox, write_reply};

@@ -1,17 +1,15 @@
-use Rattle.client_lines.specs.Parts.{spaced_parts}
-use Rattle.client_lines.proofs.SendingLemmas.{passes_more, passes_short}
+use Rattle.client_lines.specs.Tokens.{spaced_parts}
+use Rattle.client_lines.proofs.SendingLemmas.{puts_more, puts_short}
 use Rattle.client_lines.proofs.words.put_words.Goals as goal
 
-pub returns-in_err-add-clause-bytes : goal.returns-in_err-add-clause-bytes
-returns-in_err-add-clause-bytes g c =
-    passes_short c.from_residual.result c.in_err-add.field-0.0 c.args.outbox.now c.add.new.self c.add.new.self
-    (g.W.Sink.written c.args.sink.now) (g.W.Sink.written c.add.new.sink) c.args.first.now
-    (spaced_parts c.args.more.now)
-    c.from_residual.ensures.0 c.in_err-add.ensures.bytes
+pub returns-in_err-add : goal.returns-in_err-add
+returns-in_err-add g c =
+    puts_short g.W.Sink.written g.W.Sink.faults c.from_residual.result c.in_err-add.field-0.0 c.args.outbox.now
+    c.add.new.self c.args.sink.now c.add.new.sink c.args.first.now (spaced_parts c.args.more.now)
+    c.from_residual.ensures.0 c.in_err-add.ensures
 
-pub returns-clause-bytes : goal.returns-clause-bytes
-returns-clause-bytes g c =
-    passes_more tt c.put_parts.result c.args.outbox.now c.add.new.self c.put_parts.new.outbox
-    (g.W.Sink.written c.args.sink.now) (g.W.Sink.written c.add.new.sink) (g.W.Sink.written c.put_parts.new.sink)
-    c.args.first.now (spaced_parts c.args.more.now)
-    c.in_ok-add.ensures.bytes c.put_parts.ensures.bytes
+pub returns : goal.returns
+returns g c =
+    puts_more g.W.Sink.written g.W.Sink.faults c.put_parts.result c.args.outbox.now c.add.new.self
+    c.put_parts.new.outbox c.args.sink.now c.add.new.sink c.put_parts.new.sink c.args.first.now (spaced_parts
+    c.args.more.now) c.in_ok-add.ensures c.put_parts.ensures

@@ -2,8 +2,8 @@ use Rattle.std.proofs.Common.{◌<◌, arith}
 use Rattle.client_run.proofs.Ending.{no_memory, parts}
 use Rattle.client_run.proofs.Steps.{begins}
 use Rattle.client_run.specs.Serving.{start}
-use Rattle.transcript.specs.Lines.{most_lines}
 use Rattle.client_run.proofs.serving.session.Goals as goal
+use Rattle.transcript.specs.declared.limits.TheConstants.{MAX_LINES}
 
 pub returns-in_default-clause-serves : goal.returns-in_default-clause-serves
 returns-in_default-clause-serves g c = no_memory g.S.Service.answers c.args.service.now
@@ -26,7 +26,7 @@ returns-in-Err-clause-serves g c =
 
 pub lines-smaller : goal.lines-smaller
 lines-smaller g c =
-    let fits : c.lines.served < most_lines = (c.in-Ok-step.ensures.steps _ c.lines.invariant.so_far).0 in
+    let fits : c.lines.served < MAX_LINES = (c.in-Ok-step.ensures.steps _ c.lines.invariant.so_far).0 in
     omega (arith, fits)
 
 pub lines-preserved : goal.lines-preserved

@@ -1,8 +1,8 @@
 use Rattle.std.proofs.Common.{◌≤◌, ◌+◌, ◌-◌, [], length, cond}
 use Rattle.client_run.specs.Closing.{Moves}
 use Rattle.client_run.specs.Reading.{Gathers, Finds}
-use Rattle.transcript.specs.Lines.{longest_line}
 use Rattle.client_run.proofs.step.find_next.Given as goal
+use Rattle.transcript.specs.declared.limits.TheConstants.{LONGEST_LINE}
 
 abbrev pub invariant-loop-found : goal.invariant-loop-found
 invariant-loop-found g l = record {
@@ -14,4 +14,4 @@ invariant-loop-found g l = record {
 }
 
 abbrev pub decreases-loop-found : goal.decreases-loop-found
-decreases-loop-found g l = cond l.reader.over 0 (longest_line + 2 - length l.reader.pending)
+decreases-loop-found g l = cond l.reader.over 0 (LONGEST_LINE + 2 - length l.reader.pending)

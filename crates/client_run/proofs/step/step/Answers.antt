@@ -5,9 +5,10 @@ use Rattle.client_run.specs.Reading.{Finds}
 use Rattle.client_run.specs.Serving.{AnswersOne}
 use Rattle.client_run.specs.declared.find.Find.{Find}
 use Rattle.client_run.specs.declared.find.Find.TheVariants as find
-use Rattle.transcript.specs.Lines.{most_lines, without_return}
+use Rattle.transcript.specs.Lines.{without_return}
 use Rattle.client_run.proofs.step.step.Goals as goal
-use Rattle.client_run.proofs.step.step.Goals.{in_default-via-in-Line+else-served-lt-MOST_LINES, in_default-via-in-Last+else-served-lt-MOST_LINES-2, in_default-via-in_default}
+use Rattle.client_run.proofs.step.step.Goals.{in_default-via-in-Line+else-served-lt-MAX_LINES, in_default-via-in-Last+else-served-lt-MAX_LINES-2, in_default-via-in_default}
+use Rattle.transcript.specs.declared.limits.TheConstants.{MAX_LINES}
 
 pub returns-in_err-len-clause-steps : goal.returns-in_err-len-clause-steps
 returns-in_err-len-clause-steps g c =
@@ -29,7 +30,7 @@ returns-in_err-answer_line-in-Line-clause-steps g c =
     (g.I.Source.left c.args.source.now) (g.I.Source.left c.find_next.new.source)
     (g.W.Sink.written c.args.sink.now) (g.W.Sink.written c.find_next.new.sink)
     c.args.outbox.now c.find_next.new.outbox c.args.reader.now c.find_next.new.reader c.args.served c.requires.few so
-    c.find_next.ensures.gathers c.in_ok-len.ensures.found.2 (omega (arith, c.if-served-lt-MOST_LINES.true))
+    c.find_next.ensures.gathers c.in_ok-len.ensures.found.2 (omega (arith, c.if-served-lt-MAX_LINES.true))
     c.in-Line.len
     c.answer_line.new.service (g.W.Sink.written c.answer_line.new.sink) c.answer_line.new.outbox _ finds
     (subst (λ (line : List ℕ). AnswersOne g.S.Service.answers c.args.service.now c.answer_line.new.service line
@@ -47,7 +48,7 @@ returns-in_err-answer_line-in-Last-clause-steps g c =
     (g.I.Source.left c.args.source.now) (g.I.Source.left c.find_next.new.source)
     (g.W.Sink.written c.args.sink.now) (g.W.Sink.written c.find_next.new.sink)
     c.args.outbox.now c.find_next.new.outbox c.args.reader.now c.find_next.new.reader c.args.served c.requires.few so
-    c.find_next.ensures.gathers c.in_ok-len.ensures.found.2 (omega (arith, c.if-served-lt-MOST_LINES-2.true))
+    c.find_next.ensures.gathers c.in_ok-len.ensures.found.2 (omega (arith, c.if-served-lt-MAX_LINES-2.true))
     c.in-Last.len
     c.answer_line-in-Last.new.service (g.W.Sink.written c.answer_line-in-Last.new.sink)
     c.answer_line-in-Last.new.outbox finds _
@@ -62,13 +63,13 @@ returns-in_ok-answer_line-in-Line-clause-steps g c =
     subst (λ (f : Find). Finds c.find_next.new.reader f) c.in-Line.is c.in_ok-len.ensures.found.0 in
     let bytes = c.without_return-line.ensures ∙ ap without_return c.front.ensures in
     λ first so. (
-      omega (arith, c.if-served-lt-MOST_LINES.true),
+      omega (arith, c.if-served-lt-MAX_LINES.true),
       ended_goes g.S.Service.answers first c.args.service.now (g.I.Source.left c.args.source.now)
           (g.I.Source.left c.find_next.new.source) (g.W.Sink.written c.args.sink.now)
           (g.W.Sink.written c.find_next.new.sink)
           c.args.outbox.now c.find_next.new.outbox c.args.reader.now c.find_next.new.reader c.args.served
           c.requires.few so c.find_next.ensures.gathers c.in_ok-len.ensures.found.2
-          (omega (arith, c.if-served-lt-MOST_LINES.true)) c.in-Line.len
+          (omega (arith, c.if-served-lt-MAX_LINES.true)) c.in-Line.len
           c.answer_line.new.service (g.W.Sink.written c.answer_line.new.sink) c.answer_line.new.outbox _
           c.skip.new.self finds c.skip.ensures (rw bytes at c.in_ok-answer_line-in-Line.ensures.answers)
           c.in_ok-answer_line-in-Line.ensures.room,
@@ -82,7 +83,7 @@ returns-in_ok-answer_line-in-Last-clause-steps g c =
     (g.I.Source.left c.find_next.new.source) (g.W.Sink.written c.args.sink.now)
     (g.W.Sink.written c.find_next.new.sink)
     c.args.outbox.now c.find_next.new.outbox c.args.reader.now c.find_next.new.reader c.args.served c.requires.few so
-    c.find_next.ensures.gathers c.in_ok-len.ensures.found.2 (omega (arith, c.if-served-lt-MOST_LINES-2.true))
+    c.find_next.ensures.gathers c.in_ok-len.ensures.found.2 (omega (arith, c.if-served-lt-MAX_LINES-2.true))
     c.in-Last.len
     c.answer_line-in-Last.new.service (g.W.Sink.written c.answer_line-in-Last.new.sink)
     c.answer_line-in-Last.new.outbox finds _ (g.W.Sink.written c.close.new.sink) c.close.new.outbox c.close.result
@@ -103,15 +104,15 @@ pub returns-in_default-clause-steps : goal.returns-in_default-clause-steps
 returns-in_default-clause-steps g c =
     let found = c.in_ok-len.field-0 in
     let not_end : found ≡ find.End → ⊥ = elim c.in_default.branch [
-      | in_default-via-in-Line+else-served-lt-MOST_LINES w ↦ λ is. absurd (cc (is, w.in-Line.is))
-      | in_default-via-in-Last+else-served-lt-MOST_LINES-2 w ↦ λ is. absurd (cc (is, w.in-Last.is))
+      | in_default-via-in-Line+else-served-lt-MAX_LINES w ↦ λ is. absurd (cc (is, w.in-Line.is))
+      | in_default-via-in-Last+else-served-lt-MAX_LINES-2 w ↦ λ is. absurd (cc (is, w.in-Last.is))
       | in_default-via-in_default w ↦ w.in_default.not-End
     ] in
-    let most : (len : ℕ) → (found ≡ find.Line len) ⊎ (found ≡ find.Last len) → most_lines ≤ c.args.served =
+    let most : (len : ℕ) → (found ≡ find.Line len) ⊎ (found ≡ find.Last len) → MAX_LINES ≤ c.args.served =
     elim c.in_default.branch [
-      | in_default-via-in-Line+else-served-lt-MOST_LINES w ↦ λ len is. omega (arith, w.if-served-lt-MOST_LINES.false)
-      | in_default-via-in-Last+else-served-lt-MOST_LINES-2 w ↦ λ len is. omega
-          (arith, w.if-served-lt-MOST_LINES-2.false)
+      | in_default-via-in-Line+else-served-lt-MAX_LINES w ↦ λ len is. omega (arith, w.if-served-lt-MAX_LINES.false)
+      | in_default-via-in-Last+else-served-lt-MAX_LINES-2 w ↦ λ len is. omega
+          (arith, w.if-served-lt-MAX_LINES-2.false)
       | in_default-via-in_default w ↦ λ len is. absurd
           (elim is [ inl line ↦ w.in_default.not-Line len line | inr last ↦ w.in_default.not-Last len last ])
     ] in

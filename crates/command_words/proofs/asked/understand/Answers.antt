@@ -14,13 +14,13 @@ returns-in_err-reading c = rw c.from_residual.ensures
     (first_word c.args.words.now c.command-item.result c.in-len1-up.len_at_least c.command-item.is)
     c.in_err-reading.ensures)
 
-pub returns-then-is : goal.returns-then-is
-returns-then-is c =
+pub returns-then-same : goal.returns-then-same
+returns-then-same c =
     init_asked (map string_bytes c.args.words.now)
     (map string_bytes (take (length c.args.words.now - 1) (drop 1 c.args.words.now)))
     c.in_ok-reading.reading c.in_ok-reading.directory.now c.new.result
     (first_text c.args.words.now c.command-item.result c.deref.result.now (codes "init") c.in-len1-up.len_at_least
-    c.command-item.is c.deref.ensures (c.is.ensures.0 c.if-is.true))
+    c.command-item.is c.deref.ensures (c.same.ensures.0 c.if-same.true))
     c.in_ok-reading.ensures (ap (λ (b : Bor (List ℕ)). b.now) c.new.ensures.directory) c.new.ensures.ranges
     c.new.ensures.save c.new.ensures.merge
 
@@ -34,7 +34,7 @@ returns-then-not-is_bare c =
     let given : IsBare c.in_ok-reading.reading → ⊥ = λ bare.
     false≢true (sym c.if-not-is_bare.true ∙ c.is_bare.ensures.1 bare) in
     record {
-      init = λ d s. not_init seen words others d s at (λ e. false≢true (sym c.if-is.false ∙ c.is.ensures.1 e));
+      init = λ d s. not_init seen words others d s at (λ e. false≢true (sym c.if-same.false ∙ c.same.ensures.1 e));
       run = λ d. not_bare seen (codes "run") words others c.in_ok-reading.reading c.in_ok-reading.directory.now at
           c.in_ok-reading.ensures given d;
       check = λ d. not_bare seen (codes "check") words others c.in_ok-reading.reading
@@ -68,7 +68,7 @@ returns-in_default-as_str c =
     c.in-len1-up.len_at_least c.command-item.is c.as_str.ensures.value refl in
     record {
       init = λ d s. not_init seen words others d s at
-          (λ e. false≢true (sym c.if-is.false ∙ c.is.ensures.1 (c.deref.ensures ∙ sym c.as_str.ensures.value ∙ e)));
+          (λ e. false≢true (sym c.if-same.false ∙ c.same.ensures.1 (c.deref.ensures ∙ sym c.as_str.ensures.value ∙ e)));
       run = λ d. other_verb seen (codes "run") words others d at c.in_default-as_str.not-run;
       check = λ d. other_verb seen (codes "check") words others d at c.in_default-as_str.not-check;
     }

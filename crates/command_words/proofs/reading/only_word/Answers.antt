@@ -8,7 +8,7 @@ returns-in-Some-len1 c =
     c.in-Some-len1.is-0
     (one_word c.args.rest.now c.end-item.result c.in-Some-len1.len_at_least c.in-Some-len1.len_below c.end-item.is
     ∙ ap (λ (t : List ℕ). t ∷ []) (sym c.deref.ensures))
-    (c.is.ensures.0 c.if-is.true)
+    (c.same.ensures.0 c.if-same.true)
 
 pub returns-in-None-len2 : goal.returns-in-None-len2
 returns-in-None-len2 c =
@@ -17,4 +17,4 @@ returns-in-None-len2 c =
     (two_words c.args.rest.now c.end-item-then-this-lt3.result c.word-item.result c.in-None-len2.len_at_least
     c.in-None-len2.len_below c.end-item-then-this-lt3.is c.word-item.is
     ∙ ap (λ (t : List ℕ). t ∷ string_bytes c.word-item.result ∷ []) (sym c.deref-then-this-lt3.ensures))
-    (c.is-then-this-lt3.ensures.0 c.if-is-2.true) c.deref-in-None-len2.ensures
+    (c.same-then-this-lt3.ensures.0 c.if-same-2.true) c.deref-in-None-len2.ensures

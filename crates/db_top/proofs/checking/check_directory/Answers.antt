@@ -14,14 +14,14 @@ returns-in-Ok-put_store-clause-checks g c =
           (record {
             out = took.out;
             named = took.directory;
-            stood = took.stood;
+            was_stored = took.was_stored;
             blank = took.blank;
             others = took.others;
           })
-          (record { stores = refl; directories = refl; stands = refl })
+          (record { stores = refl; directories = refl; stored = refl })
           (Checks g.W.Disk.Disk c.check-store.result.1.bytes)
           c.check-store.result.0 c.check-store.result.2 c.check-store.ensures
-          (record { back = put.back; directories = put.directories; others = put.others }) put.stands);
+          (record { back = put.back; directories = put.directories; others = put.others }) put.stored);
       clients = cc;
     }
 
@@ -36,11 +36,11 @@ returns-in-Err-clause-checks g c =
           (record {
             out = took.out;
             named = took.directory;
-            stood = took.stood;
+            was_stored = took.was_stored;
             blank = took.blank;
             others = took.others;
           })
-          (record { stores = refl; directories = refl; stands = refl })
+          (record { stores = refl; directories = refl; stored = refl })
           (Checks g.W.Disk.Disk c.check-store.result.1.bytes)
           c.check-store.result.0 c.check-store.result.2 c.check-store.ensures
           put.directories put.others put.back (rose_since (g.W.World.faults c.args.world.now)

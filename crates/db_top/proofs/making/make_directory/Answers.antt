@@ -15,14 +15,14 @@ returns-in-Ok-put_store-clause-makes g c =
           (record {
             out = took.out;
             named = took.directory;
-            stood = took.stood;
+            was_stored = took.was_stored;
             blank = took.blank;
             others = took.others;
           })
-          (record { stores = refl; directories = refl; stands = refl })
+          (record { stores = refl; directories = refl; stored = refl })
           (Makes g.W.Disk.Disk (settings_of c.args.settings))
           c.make-store.result.0 c.make-store.result.1 c.make-store.ensures
-          (record { back = put.back; directories = put.directories; others = put.others }) put.stands);
+          (record { back = put.back; directories = put.directories; others = put.others }) put.stored);
       clients = cc;
     }
 
@@ -37,11 +37,11 @@ returns-in-Err-clause-makes g c =
           (record {
             out = took.out;
             named = took.directory;
-            stood = took.stood;
+            was_stored = took.was_stored;
             blank = took.blank;
             others = took.others;
           })
-          (record { stores = refl; directories = refl; stands = refl })
+          (record { stores = refl; directories = refl; stored = refl })
           (Makes g.W.Disk.Disk (settings_of c.args.settings))
           c.make-store.result.0 c.make-store.result.1 c.make-store.ensures
           put.directories put.others put.back (rose_since (g.W.World.faults c.args.world.now)

@@ -6,31 +6,9 @@ pub returns-in-Ok : goal.returns-in-Ok
 returns-in-Ok g c =
     let before = c.in-Ok.ensures in
     let during = c.serve-engine.ensures in
-    let (input, output, over, consumed, appended, at_end, ended, attended) = during.attended in
     serves_opened g.D.Disk g.I.Source g.O.Sink c.args.store c.args.client.now
     (record { source = c.serve-engine.new.source; sink = c.serve-engine.new.sink; port = c.args.client.now.port })
     c.in-Ok.engine c.serve-engine.result.0 c.serve-engine.result.1
-    (record {
-      opens = before.opened;
-      longest = before.longest;
-      shown = before.images;
-      up = before.up;
-      yard = before.yard;
-      later = before.later;
-    })
-    (record {
-      input = input;
-      output = output;
-      over = over;
-      consumed = consumed;
-      appended = appended;
-      at_end = at_end;
-      ended = ended;
-      attended = attended;
-      yard = during.yard;
-      later = during.later;
-      read_fault = during.read_fault;
-      write_fault = during.write_fault;
-      port = refl;
-    })
+    (record { directory = before.answers; shown = before.images; yard = before.yard; later = before.later })
+    (record { lines = during.serves; yard = during.yard; later = during.later; port = refl })
     c.close.result c.from.result c.close.ensures.disk c.close.ensures.yard c.from.ensures

@@ -1,5 +1,5 @@
 use Rattle.std.proofs.Common.{◌≡◌, length}
-use Rattle.disk_memory.specs.Held.{AreLeft}
+use Rattle.disk_memory.specs.CrashStates.{AreLeft}
 use Rattle.disk_memory.proofs.disk.all_left.Given as goal
 
 abbrev pub invariant-logs : goal.invariant-logs

@@ -1,4 +1,4 @@
-use Rattle.disk_memory.specs.Held.{AreSure}
+use Rattle.disk_memory.specs.CrashStates.{AreSure}
 use Rattle.disk_memory.proofs.logs.sure_logs.Given as goal
 
 abbrev pub invariant-logs : goal.invariant-logs

@@ -4,8 +4,8 @@ use Rattle.doc_engine.proofs.opening.find.Goals as goal
 
 pub returns-clause-found : goal.returns-clause-found
 returns-clause-found g c =
-    if_some (g.D.Disk.seen c.args.disk.now) c.in_ok-journal.ensures.found
-    (λ image opened. finds g.D.Disk.seen g.D.Disk.may_leave image c.scan_all.new.disk c.in_ok-journal.journal
+    if_some (g.D.Disk.seen c.args.disk.now) c.in_ok-journal.ensures.opened.found
+    (λ image opened. finds g.D.Disk image c.scan_all.new.disk c.in_ok-journal.journal
     c.in_ok-journal.scanned opened c.in_ok-restored.restored c.in_ok-restored.ensures _ refl refl refl)
 
 pub returns-clause-stamps : goal.returns-clause-stamps

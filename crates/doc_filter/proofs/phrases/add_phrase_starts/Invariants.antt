@@ -1,6 +1,6 @@
 use Rattle.std.proofs.Common.{◌≡◌, ◌++◌, take}
 use Rattle.std.specs.Option.{option_copied}
-use Rattle.doc_filter.specs.Worded.{phrase_starts}
+use Rattle.doc_filter.specs.Tokenized.{phrase_starts}
 use Rattle.doc_filter.proofs.phrases.add_phrase_starts.Given as goal
 
 abbrev pub invariant-loop-string : goal.invariant-loop-string

@@ -1,6 +1,6 @@
 use Rattle.std.proofs.Common.{◌≡◌, false, take}
 use Rattle.std.specs.Option.{option_copied}
-use Rattle.doc_filter.specs.Worded.{has_phrase}
+use Rattle.doc_filter.specs.Tokenized.{has_phrase}
 use Rattle.doc_filter.proofs.phrases.has_phrase.Given as goal
 
 abbrev pub invariant-loop-string : goal.invariant-loop-string

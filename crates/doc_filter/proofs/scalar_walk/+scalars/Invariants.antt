@@ -8,7 +8,7 @@ use Rattle.doc_filter.proofs.scalar_walk.+scalars.Given as goal
 abbrev pub invariant-some_item_passes-loop-item : goal.invariant-some_item_passes-loop-item
 invariant-some_item_passes-loop-item l =
     let has = some_named l.names (passes l.test) in
-    list_any (λ item. has (scalars_under item (option_copied l.fn.owner))) (take l.item-index l.items) ≡ false
+    list_any (λ item. has (scalars_under item (option_copied l.fn.property))) (take l.item-index l.items) ≡ false
 
 abbrev pub invariant-some_member_passes-loop-member : goal.invariant-some_member_passes-loop-member
 invariant-some_member_passes-loop-member l =

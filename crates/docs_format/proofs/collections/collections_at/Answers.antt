@@ -14,7 +14,7 @@ returns-in_err-last c =
     rw (p.1, p.2)
     (stops_same c.in_err-last.field-0.0 _ (collections_at c.args.reader.now)
     (collections_are c.args.reader.now c.in_ok-count.count c.count.new.self c.in_ok-count.ensures
-    c.if-count-gt-MOST_COLLECTIONS.false)
+    c.if-count-gt-MAX_COLLECTIONS.false)
     (stops c.in_err-last.field-0.0 (λ before. collection_at
     (last_of before)) c.loop.collections c.in_ok-count.count c.loop.counter c.loop.reader _ c.loop-test.true (rw
     (← c.loop.invariant.last) c.in_err-last.ensures) c.loop.invariant.total))
@@ -35,7 +35,7 @@ loop-preserved c = record {
 pub returns : goal.returns
 returns c =
     collections_are c.args.reader.now c.in_ok-count.count c.count.new.self c.in_ok-count.ensures
-    c.if-count-gt-MOST_COLLECTIONS.false
+    c.if-count-gt-MAX_COLLECTIONS.false
     ∙ ends
     (λ before. collection_at (last_of before)) c.loop.collections c.in_ok-count.count c.loop.counter c.loop.reader _
     c.loop-test.false c.loop.invariant.total

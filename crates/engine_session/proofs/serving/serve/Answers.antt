@@ -20,26 +20,29 @@ session-how-requires-after_bounds g c κs within =
       record { shared = bounds.sync-Y-File.shared },
     ))
 
-pub returns-clause-attended : goal.returns-clause-attended
-returns-clause-attended g c =
+pub returns-clause-serves : goal.returns-clause-serves
+returns-clause-serves g c =
     let laws = g.met.D.Disk g.world.𝓛 g.world.𝓜 g.world.𝓡 ((λ s x. x), (λ x. x), (λ x. x), λ x. x) in
-    let now = leaves_now g.D.Disk.may_leave g.D.Disk.moment g.D.Disk.left_since laws.only_now laws.counts_now in
-    let (input, output, over, came, went, at_end, serves) = c.session-how.ensures.serves in (
-      input,
-      output,
-      over,
-      came,
-      went,
-      at_end,
-      has_ended _ _ _ input output c.session-how.result over serves,
-      λ base longest is_base is_at up short. attended_by now _ _ _ input output c.session-how.result over serves
-          (λ f p asked said q f' met. met.1.0) base longest is_base is_at up short,
-    )
+    let now = leaves_now g.D.Disk laws.only_now laws.counts_now in
+    let (input, output, over, consumed, appended, at_end, serves) = c.session-how.ensures.serves in
+    record {
+      input = input;
+      output = output;
+      over = over;
+      consumed = consumed;
+      appended = appended;
+      at_end = at_end;
+      ended = has_ended _ _ _ input output c.session-how.result over serves;
+      read_fault = c.session-how.ensures.read_fault;
+      write_fault = c.session-how.ensures.write_fault;
+      attended = λ base longest is_at up short. attended_by now _ _ _ input output c.session-how.result over serves
+          (λ f p asked said q f' met. met.1.0) base longest is_at up short;
+    }
 
 pub returns-clause-yard : goal.returns-clause-yard
 returns-clause-yard g c =
     let laws = g.met.D.Disk g.world.𝓛 g.world.𝓜 g.world.𝓡 ((λ s x. x), (λ x. x), (λ x. x), λ x. x) in
-    let now = leaves_now g.D.Disk.may_leave g.D.Disk.moment g.D.Disk.left_since laws.only_now laws.counts_now in
+    let now = leaves_now g.D.Disk laws.only_now laws.counts_now in
     let (input, output, over, came, went, at_end, serves) = c.session-how.ensures.serves in
     (stays_by now _ _ _ input output c.session-how.result over serves
     (λ f p asked said q f' met. met.1.0)).yard
@@ -47,7 +50,7 @@ returns-clause-yard g c =
 pub returns-clause-later : goal.returns-clause-later
 returns-clause-later g c =
     let laws = g.met.D.Disk g.world.𝓛 g.world.𝓜 g.world.𝓡 ((λ s x. x), (λ x. x), (λ x. x), λ x. x) in
-    let now = leaves_now g.D.Disk.may_leave g.D.Disk.moment g.D.Disk.left_since laws.only_now laws.counts_now in
+    let now = leaves_now g.D.Disk laws.only_now laws.counts_now in
     let (input, output, over, came, went, at_end, serves) = c.session-how.ensures.serves in
     (stays_by now _ _ _ input output c.session-how.result over serves
     (λ f p asked said q f' met. met.1.0)).later

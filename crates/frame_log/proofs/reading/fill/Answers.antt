@@ -8,7 +8,7 @@ pub loop-done-init : goal.loop-done-init
 loop-done-init g c =
     let laws = g.met.D.Disk g.world.𝓛 g.world.𝓜 g.world.𝓡 ((λ s x. x), (λ x. x), (λ x. x), λ x. x) in
     record {
-      read = only_read_same g.D.Disk.seen g.D.Disk.may_leave g.D.Disk.moment g.D.Disk.left_since c.args.disk.now
+      read = only_read_same g.D.Disk c.args.disk.now
           (laws.only_now c.args.disk.now);
       len = refl;
       within = omega arith;
@@ -23,7 +23,7 @@ read_more-requires-clause-within g c lives live =
 
 pub returns-in_err-next-clause-read : goal.returns-in_err-next-clause-read
 returns-in_err-next-clause-read g c =
-    only_read_more g.D.Disk.seen g.D.Disk.may_leave g.D.Disk.moment g.D.Disk.left_since _ _ _
+    only_read_more g.D.Disk _ _ _
     c.loop-done.invariant.read c.read_more.ensures.read
 
 pub returns-in_err-next-clause-cause : goal.returns-in_err-next-clause-cause
@@ -42,7 +42,7 @@ returns-then-next-done-clause-refused g c =
 
 pub returns-then-next-done-clause-read : goal.returns-then-next-done-clause-read
 returns-then-next-done-clause-read g c =
-    only_read_more g.D.Disk.seen g.D.Disk.may_leave g.D.Disk.moment g.D.Disk.left_since _ _ _
+    only_read_more g.D.Disk _ _ _
     c.loop-done.invariant.read c.read_more.ensures.read
 
 pub returns-then-next-done-clause-cause : goal.returns-then-next-done-clause-cause
@@ -62,7 +62,7 @@ loop-done-preserved g c =
     c.loop-done.done c.loop-done.out → IsRead (image c.args.file) c.args.place c.in_ok-next.next
     c.read_more.new.out) = rw (← far.read.same) c.in_ok-next.ensures.bytes in
     record {
-      read = only_read_more g.D.Disk.seen g.D.Disk.may_leave g.D.Disk.moment g.D.Disk.left_since _ _ _ far.read
+      read = only_read_more g.D.Disk _ _ _ far.read
           c.read_more.ensures.read;
       len = c.read_more.ensures.len ∙ far.len;
       within = omega (arith, c.in_ok-next.ensures.fits, c.read_more.ensures.len);

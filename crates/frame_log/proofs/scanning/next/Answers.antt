@@ -7,25 +7,25 @@ use Rattle.frame_log.proofs.scanning.next.Goals as goal
 
 pub returns-in_err-size-clause-read : goal.returns-in_err-size-clause-read
 returns-in_err-size-clause-read g c =
-    only_read_more g.D.Disk.seen g.D.Disk.may_leave g.D.Disk.moment g.D.Disk.left_since _ _ _ c.is_open.ensures.read
+    only_read_more g.D.Disk _ _ _ c.is_open.ensures.read
     c.size_at.ensures.read
 
 pub returns-in_err-body-clause-read : goal.returns-in_err-body-clause-read
 returns-in_err-body-clause-read g c =
-    only_read_more g.D.Disk.seen g.D.Disk.may_leave g.D.Disk.moment g.D.Disk.left_since _ _ _ c.is_open.ensures.read
+    only_read_more g.D.Disk _ _ _ c.is_open.ensures.read
     c.size_at.ensures.read
 
 pub returns-in_err-fill-clause-read : goal.returns-in_err-fill-clause-read
 returns-in_err-fill-clause-read g c =
-    let both = only_read_more g.D.Disk.seen g.D.Disk.may_leave g.D.Disk.moment g.D.Disk.left_since _ _ _
+    let both = only_read_more g.D.Disk _ _ _
     c.is_open.ensures.read c.size_at.ensures.read in
-    only_read_more g.D.Disk.seen g.D.Disk.may_leave g.D.Disk.moment g.D.Disk.left_since _ _ _ both c.fill.ensures.read
+    only_read_more g.D.Disk _ _ _ both c.fill.ensures.read
 
 pub returns-clause-read : goal.returns-clause-read
 returns-clause-read g c =
-    let both = only_read_more g.D.Disk.seen g.D.Disk.may_leave g.D.Disk.moment g.D.Disk.left_since _ _ _
+    let both = only_read_more g.D.Disk _ _ _
     c.is_open.ensures.read c.size_at.ensures.read in
-    only_read_more g.D.Disk.seen g.D.Disk.may_leave g.D.Disk.moment g.D.Disk.left_since _ _ _ both c.fill.ensures.read
+    only_read_more g.D.Disk _ _ _ both c.fill.ensures.read
 
 -- the body was read behind its length
 pub returns-clause-found : goal.returns-clause-found

@@ -20,7 +20,7 @@ frames-preserved g c =
     (rw c.in-Some.is at c.in_ok-body.ensures.found) in
     let on : c.frames.end + (9 + c.len-in-Some.result) ≡ c.frames.end + 9 + length body = search rules in
     rw (all, on) (record {
-      read = only_read_more g.D.Disk.seen g.D.Disk.may_leave g.D.Disk.moment g.D.Disk.left_since _ _ _ far.read
+      read = only_read_more g.D.Disk _ _ _ far.read
           c.next.ensures.read;
       later = omega (arith, far.later, c.next.ensures.cause.later);
       inside = rw c.in-Some.is at c.in_ok-body.ensures.inside;
@@ -31,7 +31,7 @@ frames-preserved g c =
           c.in_ok-len.len (image c.args.file) body far.at_end refl seen begins);
     })
 
--- behind the frames stands a closed gate
+-- a closed gate is behind the frames
 pub returns-clause-answer : goal.returns-clause-answer
 returns-clause-answer g c =
     let far = c.frames.invariant in
@@ -45,7 +45,7 @@ pub returns-clause-log : goal.returns-clause-log
 returns-clause-log g c =
     let far = c.frames.invariant in
     let log = c.ending.result in
-    let all = only_read_more g.D.Disk.seen g.D.Disk.may_leave g.D.Disk.moment g.D.Disk.left_since _ _ _ far.read
+    let all = only_read_more g.D.Disk _ _ _ far.read
     c.next.ensures.read in
     let ends : IfSome (g.D.Disk.seen c.args.disk.now) (λ image. EndsAt (drop c.frames.end (image c.args.file))) = rw
     (← far.read.same) (rw c.in_default.is at c.in_ok-body.ensures.found) in
@@ -62,7 +62,7 @@ returns-clause-log g c =
           (if_some (g.D.Disk.seen c.args.disk.now) far.told (λ image seen. omega (arith, seen.all, far.inside)));
       holds = λ told settled. record {
         good = c.ending.ensures.up;
-        stands = record {
+        represents = record {
           told = rw all.same told;
           at_end = c.ending.ensures.place.1 ∙ far.at_end;
           images = λ d left. good_leaves log.state (bodies_of c.frames.bodies) [] (d log.file) c.ending.ensures.up

@@ -4,7 +4,7 @@ use Rattle.frame_log.proofs.ScanLemmas.{IsScanned}
 use Rattle.frame_log.proofs.scanning.scan.Given as goal
 
 abbrev pub invariant-frames : goal.invariant-frames
-invariant-frames g l = IsScanned g.D.Disk.seen g.D.Disk.may_leave g.D.Disk.moment g.D.Disk.left_since g.D.Disk.faults
+invariant-frames g l = IsScanned g.D.Disk
     l.fn.disk l.disk l.file l.len l.end (bodies_of l.bodies)
 
 abbrev pub decreases-frames : goal.decreases-frames

@@ -1,7 +1,7 @@
 use Rattle.std.proofs.Common.{IsSome, refl}
 use Rattle.disk_model.specs.Changes.{Any}
 use Rattle.frame_log.proofs.Changes.{told_after}
-use Rattle.journal.proofs.Blanks.{bare_images, blank_stands, if_told}
+use Rattle.journal.proofs.Blanks.{bare_images, blank_represents, if_told}
 use Rattle.journal.proofs.making.empty_journal.Goals as goal
 
 pub returns-in_err-journal_1-clause-images : goal.returns-in_err-journal_1-clause-images
@@ -10,7 +10,7 @@ returns-in_err-journal_1-clause-images g c =
     if_told (g.D.Disk.seen c.args.disk.now) (λ image is none.
     let told : IsSome (g.D.Disk.seen c.args.disk.now) = rw is refl in
     let known : IsSome (g.D.Disk.seen c.settle.new.disk) = rw (c.settle.ensures.seen, is) refl in
-    bare_images g.D.Disk.seen g.D.Disk.may_leave g.D.Disk.moment g.D.Disk.left_since laws.counts_now _ _ _ _ _ image
+    bare_images g.D.Disk laws.counts_now _ _ _ _ _ image
     is none
     (c.settle.ensures.read told) (c.settle-2.ensures.read known) c.in_ok-settle.ensures.settled
     c.in_ok-settle-2.ensures.settled c.blank.ensures.others c.blank-2.ensures.others)
@@ -21,13 +21,13 @@ returns-clause-images g c =
     if_told (g.D.Disk.seen c.args.disk.now) (λ image is none.
     let told : IsSome (g.D.Disk.seen c.args.disk.now) = rw is refl in
     let known : IsSome (g.D.Disk.seen c.settle.new.disk) = rw (c.settle.ensures.seen, is) refl in
-    bare_images g.D.Disk.seen g.D.Disk.may_leave g.D.Disk.moment g.D.Disk.left_since laws.counts_now _ _ _ _ _ image
+    bare_images g.D.Disk laws.counts_now _ _ _ _ _ image
     is none
     (c.settle.ensures.read told) (c.settle-2.ensures.read known) c.in_ok-settle.ensures.settled
     c.in_ok-settle-2.ensures.settled c.blank.ensures.others c.blank-2.ensures.others)
 
-pub returns-clause-stands : goal.returns-clause-stands
-returns-clause-stands g c =
+pub returns-clause-represents : goal.returns-clause-represents
+returns-clause-represents g c =
     let laws = g.met.D.Disk g.world.𝓛 g.world.𝓜 g.world.𝓡 ((λ s x. x), (λ x. x), (λ x. x), λ x. x) in
     if_told (g.D.Disk.seen c.args.disk.now) (λ image is none.
     let told : IsSome (g.D.Disk.seen c.args.disk.now) = rw is refl in
@@ -36,7 +36,7 @@ returns-clause-stands g c =
     refl in
     let more : IsSome (g.D.Disk.seen c.blank.new.disk) =
     told_after 0 Any _ _ c.blank.ensures.others.reads also in
-    blank_stands g.D.Disk.seen g.D.Disk.may_leave g.D.Disk.moment g.D.Disk.left_since laws.counts_now _ _ _ _ _ image
+    blank_represents g.D.Disk laws.counts_now _ _ _ _ _ image
     is none
     (c.settle.ensures.read told) (c.settle-2.ensures.read known) c.in_ok-settle.ensures.settled
     c.in_ok-settle-2.ensures.settled c.blank.ensures.others c.blank-2.ensures.others _

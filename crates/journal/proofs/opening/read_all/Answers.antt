@@ -124,16 +124,16 @@ returns-clause-found g c =
           { from = turns.second_rises.0; spelled = read.second_entries; rises = turns.second_rises.1 };
       replays = turns.replays;
     } in
-    let journal_0 = read_earlier g.D.Disk.seen g.D.Disk.may_leave g.D.Disk.moment g.D.Disk.left_since 0 _ _ _
+    let journal_0 = read_earlier g.D.Disk 0 _ _ _
     logs.first.log (items_of logs.first.bodies.items) c.read_root_logs.ensures.read read.first_read in
-    let journal_1 = read_earlier g.D.Disk.seen g.D.Disk.may_leave g.D.Disk.moment g.D.Disk.left_since 1 _ _ _
+    let journal_1 = read_earlier g.D.Disk 1 _ _ _
     logs.second.log (items_of logs.second.bodies.items) c.read_root_logs.ensures.read read.second_read in
-    let root_0 = read_later g.D.Disk.seen g.D.Disk.may_leave g.D.Disk.moment g.D.Disk.left_since 2 _ _ _
+    let root_0 = read_later g.D.Disk 2 _ _ _
     roots.first.log (items_of roots.first.bodies.items) c.read_journals.ensures.read found.first_read in
-    let root_1 = read_later g.D.Disk.seen g.D.Disk.may_leave g.D.Disk.moment g.D.Disk.left_since 3 _ _ _
+    let root_1 = read_later g.D.Disk 3 _ _ _
     roots.second.log (items_of roots.second.bodies.items) c.read_journals.ensures.read found.second_read in
     if_some_four (g.D.Disk.seen c.args.disk.now) journal_0.frames journal_1.frames root_0.frames root_1.frames
-    (λ image has_0 has_1 has_2 has_3. reads_all g.D.Disk.seen g.D.Disk.may_leave c.args.disk.now
+    (λ image has_0 has_1 has_2 has_3. reads_all g.D.Disk c.args.disk.now
     c.read_journals.new.disk newest c.in_ok-journals.journals c.assemble.result c.assemble.ensures _ _ _ _
     (rw turns.first_log journal_0) (rw turns.second_log journal_1) (rw c.in-Some.ensures.first_log root_0)
     (rw c.in-Some.ensures.second_log root_1) image k is told

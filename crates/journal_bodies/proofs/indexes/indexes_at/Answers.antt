@@ -14,7 +14,7 @@ returns-in_err-index_at c =
     rw (p.1, p.2)
     (stops_same c.in_err-index_at.field-0.0 _ (indexes_at c.args.reader.now)
     (indexes_are c.args.reader.now c.in_ok-count.count c.count.new.self c.in_ok-count.ensures
-    c.if-count-gt-MOST_INDEXES.false)
+    c.if-count-gt-MAX_INDEXES.false)
     (stops c.in_err-index_at.field-0.0 index_at c.loop.list.items c.in_ok-count.count c.loop.counter c.loop.reader _
     c.loop-test.true (rw c.as_slice.ensures.value at c.in_err-index_at.ensures) c.loop.invariant))
 
@@ -32,13 +32,13 @@ unreachable-requires c =
     let none : false ≡ true =
     c.in-None.ensures.some.1
     (is_true _ (indexes_kept c.in_ok-count.count c.count.new.self c.loop.list.items c.loop.reader
-    c.if-count-gt-MOST_INDEXES.false read)) in
+    c.if-count-gt-MAX_INDEXES.false read)) in
     cc
 
 pub returns : goal.returns
 returns c =
     rw c.in-Some.ensures.kept
     (indexes_are c.args.reader.now c.in_ok-count.count c.count.new.self c.in_ok-count.ensures
-    c.if-count-gt-MOST_INDEXES.false
+    c.if-count-gt-MAX_INDEXES.false
     ∙ ends index_at c.loop.list.items c.in_ok-count.count c.loop.counter c.loop.reader _ c.loop-test.false
     c.loop.invariant)

@@ -15,7 +15,7 @@ returns-in_err-op_at c =
     rw (p.1, p.2)
     (stops_same c.in_err-op_at.field-0.0 _ (ops_at c.args.reader.now)
     (ops_are c.args.reader.now c.in_ok-count.count c.count.new.self c.in_ok-count.ensures some
-    c.if-count-gt-MOST_OPERATIONS.false)
+    c.if-count-gt-MAX_OPERATIONS.false)
     (stops c.in_err-op_at.field-0.0 op_at c.loop.list.items c.in_ok-count.count c.loop.counter c.loop.reader _
     c.loop-test.true (c.in_err-op_at.ensures.op c.loop.list.items c.loop.invariant.met) c.loop.invariant.total))
 
@@ -41,7 +41,7 @@ unreachable-requires c =
     let none : broken_ops_rule c.loop.list.items ≡ None =
     rules_kept c.in_ok-count.count c.count.new.self c.loop.list.items c.loop.reader
     (ends op_at c.loop.list.items c.in_ok-count.count c.loop.counter c.loop.reader _ c.loop-test.false
-    c.loop.invariant.total) some c.if-count-gt-MOST_OPERATIONS.false in
+    c.loop.invariant.total) some c.if-count-gt-MAX_OPERATIONS.false in
     let both = sym none ∙ c.in-Err.ensures.refused in
     cc
 
@@ -50,6 +50,6 @@ returns c =
     let some : 1 ≤ c.in_ok-count.count = omega arith in
     rw c.in-Ok.ensures.kept
     (ops_are c.args.reader.now c.in_ok-count.count c.count.new.self c.in_ok-count.ensures some
-    c.if-count-gt-MOST_OPERATIONS.false
+    c.if-count-gt-MAX_OPERATIONS.false
     ∙ ends op_at c.loop.list.items c.in_ok-count.count c.loop.counter c.loop.reader _ c.loop-test.false
     c.loop.invariant.total)

@@ -26,7 +26,7 @@ returns-in_err-entry_at c =
     c.body-item.is
     c.deref.ensures.value in
     rw (p.1, p.2)
-    (unread (BreaksAt IsBadEntry c.loop-body.gate body) (AreBadEntries bodies)
+    (unread c.args.file (BreaksAt IsBadEntry c.loop-body.gate body) (AreBadEntries bodies)
     (bad_body IsEntryBody IsBadEntry bodies c.loop-body.body-index c.loop-body.gate body here c.loop-body.invariant.gate
     (entry_before bodies c.loop-body.body-index c.loop-body.entries.items c.loop-body.invariant.entries))
     c.in_err-entry_at.field-0.0 c.in_err-entry_at.ensures)

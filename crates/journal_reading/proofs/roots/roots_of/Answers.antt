@@ -26,7 +26,7 @@ returns-in_err-root_at c =
     c.body-item.is
     c.deref.ensures.value in
     rw (p.1, p.2)
-    (unread (BreaksAt IsBadRoot c.loop-body.gate body) (AreBadRoots bodies)
+    (unread c.args.file (BreaksAt IsBadRoot c.loop-body.gate body) (AreBadRoots bodies)
     (bad_body IsRootBody IsBadRoot bodies c.loop-body.body-index c.loop-body.gate body here c.loop-body.invariant.gate
     (root_before bodies c.loop-body.body-index c.loop-body.roots.items c.loop-body.invariant.roots))
     c.in_err-root_at.field-0.0 c.in_err-root_at.ensures)

@@ -5,7 +5,7 @@ use Rattle.plain_query.proofs.scalar_list.+scalars.Given as goal
 
 abbrev pub invariant-add_items-loop-item : goal.invariant-add_items-loop-item
 invariant-add_items-loop-item l =
-    l.out ≡ l.fn.out ++ flat_map (λ item. scalars_under item (option_copied l.fn.owner)) (take l.item-index l.items)
+    l.out ≡ l.fn.out ++ flat_map (λ item. scalars_under item (option_copied l.fn.property)) (take l.item-index l.items)
 
 abbrev pub invariant-add_members-loop-member : goal.invariant-add_members-loop-member
 invariant-add_members-loop-member l =

@@ -1,6 +1,6 @@
 use Rattle.std.proofs.Common.{◌≡◌, ◌-◌, ◌+◌, ℕ, List, Some, length, take, drop, ap, arith, subst}
 use Rattle.client_run.proofs.Windows.{searched, length-window, none_more, one_more, finds_feed, all_clean}
-use Rattle.client_run.specs.Reading.{Held, HasNoFeedBefore, FindsFeed}
+use Rattle.client_run.specs.Reading.{ReaderState, HasNoFeedBefore, FindsFeed}
 use Rattle.transcript.specs.Lines.{HasNoFeed}
 use Rattle.client_run.proofs.reader.LineReader.find_feed.Goals as goal
 
@@ -38,7 +38,7 @@ returns-in-Some-clause-found c =
     c.deref.ensures.value (omega (arith, order, seen))) (omega (arith, seen, len)) clean c.in-Some.more
     c.in-Some.ensures in
     subst (λ (xs : List ℕ). FindsFeed xs (Some (r.seen + c.in-Some.more)))
-    (ap (λ (h : Held). h.pending) c.self.view_is) (finds_feed bytes (r.seen + c.in-Some.more) one)
+    (ap (λ (h : ReaderState). h.pending) c.self.view_is) (finds_feed bytes (r.seen + c.in-Some.more) one)
 
 pub returns-in-None-clause-found : goal.returns-in-None-clause-found
 returns-in-None-clause-found c =
@@ -49,4 +49,4 @@ returns-in-None-clause-found c =
     (omega (arith, size, within, r.buffer.ok.0)) in
     let none = none_more bytes _ r.seen (searched r.from r.seen r.to r.buffer.items c.deref.result.now
     c.deref.ensures.value (omega (arith, order, seen))) (omega (arith, seen, len)) clean c.in-None.ensures in
-    subst HasNoFeed (ap (λ (h : Held). h.pending) c.self.view_is) (all_clean bytes none)
+    subst HasNoFeed (ap (λ (h : ReaderState). h.pending) c.self.view_is) (all_clean bytes none)

@@ -3,8 +3,8 @@ use Rattle.std.proofs.Common.{length, sym, subst}
 use Rattle.disk_model.proofs.LogsLemmas.{cut_same}
 use Rattle.disk_model.specs.Logs.{MayCut}
 use Rattle.disk_memory.specs.declared.logs.MemoryLogs.{MemoryLogs}
-use Rattle.disk_memory.specs.Held.{MayLeave, LeftSince}
-use Rattle.disk_memory.proofs.HeldLemmas.{only_at_same}
+use Rattle.disk_memory.specs.CrashStates.{MayLeave, LeftSince}
+use Rattle.disk_memory.proofs.CrashStateLemmas.{only_at_same}
 use Rattle.disk_memory.proofs.disk.MemoryDiskDisk.cut.Goals as goal
 
 pub returns-in-Stopped-clause-crash : goal.returns-in-Stopped-clause-crash

@@ -4,15 +4,16 @@ use Rattle.disk_model.specs.Changes.{OnlyAt}
 use Rattle.disk_model.proofs.LogsLemmas.{torn_same}
 use Rattle.disk_model.specs.Logs.{Torn}
 use Rattle.disk_memory.specs.declared.logs.MemoryLogs.{MemoryLogs}
-use Rattle.disk_memory.specs.Held.{read_of, MayLeave, LeftSince}
-use Rattle.disk_memory.proofs.HeldLemmas.{only_at_same}
+use Rattle.disk_memory.specs.CrashStates.{read_of, MayLeave, LeftSince}
+use Rattle.disk_memory.proofs.CrashStateLemmas.{only_at_same}
 use Rattle.disk_memory.proofs.disk.MemoryDiskDisk.write_at.Goals as goal
 
 pub returns-in-Stopped-clause-broken : goal.returns-in-Stopped-clause-broken
 returns-in-Stopped-clause-broken c =
     let logs = c.args.self.now.logs.logs.items in
     let step = Torn c.args.place (length c.args.bytes.now) in
-    subst (λ (l : MemoryLogs). OnlyAt c.args.file step (read_of logs) (read_of l.logs.items)) (sym c.fail-in-Stopped.ensures.same)
+    subst (λ (l : MemoryLogs). OnlyAt c.args.file step (read_of logs) (read_of l.logs.items))
+    (sym c.fail-in-Stopped.ensures.same)
     (only_at_same c.args.file step (read_of logs) (torn_same c.args.place (length c.args.bytes.now)))
 
 pub returns-in-Stopped-clause-crash : goal.returns-in-Stopped-clause-crash

@@ -31,7 +31,8 @@ invariant_of-self-2 c =
     (λ (l : List ℕ). IsWrite c.args.place c.args.bytes.now l c.in_ok-change.change) c.deref.ensures.value
     c.in_ok-change.ensures in
     let more : c.push_reserved.new.self.items ≡ s.pending.items ++ change ∷ [] = cc in
-    let now : c.put.new.content.items ≡ written_at s.content.items c.args.place c.args.bytes.now = c.in_ok-put.ensures.ok in
+    let now : c.put.new.content.items ≡ written_at s.content.items c.args.place c.args.bytes.now =
+    c.in_ok-put.ensures.ok in
     let within : c.args.place ≤ length s.content.items = omega (arith, c.requires.place, s.content.ok.0) in
     record {
       redone = redone_more s.pending.items c.push_reserved.new.self.items change s.sure.value.items s.content.items

@@ -4,7 +4,7 @@ use Rattle.disk_memory.specs.declared.log.MemoryLog.{MemoryLog}
 use Rattle.std.specs.Prelude.{slice_get}
 use Rattle.disk_model.proofs.LogsLemmas.{cut_same}
 use Rattle.disk_model.specs.Logs.{MayCut}
-use Rattle.disk_memory.proofs.HeldLemmas.{get_here, read_at, steps_at, only_at_same, steps_same}
+use Rattle.disk_memory.proofs.CrashStateLemmas.{get_here, read_at, steps_at, only_at_same, steps_same}
 use Rattle.disk_memory.proofs.logs.MemoryLogs.miss_cut.Goals as goal
 
 pub returns-in_err-push-clause-err : goal.returns-in_err-push-clause-err

@@ -1,5 +1,5 @@
 use Rattle.std.proofs.Common.{arith}
-use Rattle.disk_memory.proofs.HeldLemmas.{sure_length}
+use Rattle.disk_memory.proofs.CrashStateLemmas.{sure_length}
 use Rattle.disk_memory.proofs.logs.MemoryLogs.new.Goals as goal
 
 pub invariant_of-result : goal.invariant_of-result

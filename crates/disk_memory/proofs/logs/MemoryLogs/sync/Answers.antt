@@ -3,7 +3,7 @@ use Rattle.std.specs.declared.alloc.Global.{Global}
 use Rattle.disk_memory.specs.declared.log.MemoryLog.{MemoryLog}
 use Rattle.std.specs.Prelude.{slice_get}
 use Rattle.disk_model.specs.Changes.{Any}
-use Rattle.disk_memory.proofs.HeldLemmas.{get_here, read_same, steps_at, steps_same}
+use Rattle.disk_memory.proofs.CrashStateLemmas.{get_here, read_same, steps_at, steps_same}
 use Rattle.disk_memory.proofs.logs.MemoryLogs.sync.Goals as goal
 use Rattle.disk_memory.specs.Changes.{redone}
 use Rattle.disk_memory.specs.Laws.{may_read}

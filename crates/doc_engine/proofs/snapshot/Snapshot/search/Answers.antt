@@ -1,6 +1,8 @@
+use Rattle.std.proofs.Common.{subst, sym, ◌∙◌}
 use Rattle.std.proofs.lemmas.Result.{err_from_is_err_and}
-use Rattle.doc_engine.proofs.Reading.{refuses_search, search_replies}
-use Rattle.doc_engine.specs.Held.{view_of}
+use Rattle.doc_engine.proofs.Reading.{refuses_search, searched, searched_old, searches_as}
+use Rattle.doc_engine.specs.EngineState.{view_of}
+use Rattle.doc_engine.specs.Reads.{ReturnsSearch}
 use Rattle.doc_engine.proofs.snapshot.Snapshot.search.Goals as goal
 
 pub returns-in_err-check_query-clause-searches : goal.returns-in_err-check_query-clause-searches
@@ -10,6 +12,25 @@ returns-in_err-check_query-clause-searches c =
     c.in_err-check_query.ensures.refused)
 
 pub returns-in_err-check_query-clause-reply : goal.returns-in_err-check_query-clause-reply
-returns-in_err-check_query-clause-reply c =
-    search_replies (view_of c.args.self.now) c.args.query.now c.from_residual.result
-    (returns-in_err-check_query-clause-searches c)
+returns-in_err-check_query-clause-reply c h of_h =
+    subst (λ reply. ReturnsSearch reply c.from_residual.result)
+    (searches_as (view_of c.args.self.now) c.args.query.now h of_h) (returns-in_err-check_query-clause-searches c)
+
+pub returns-in_err-check_front-clause-searches : goal.returns-in_err-check_front-clause-searches
+returns-in_err-check_front-clause-searches c =
+    let p = err_from_is_err_and c.from_residual-in_err-check_front.result c.from_residual-in_err-check_front.ensures.1 in
+    rw (p.1, p.2, c.in_err-check_front.ensures.1) (searched_old (view_of c.args.self.now) c.args.query.now
+    c.in_ok-check_query.ensures.ok c.in_err-check_front.ensures.0)
+
+pub returns-in_err-check_front-clause-reply : goal.returns-in_err-check_front-clause-reply
+returns-in_err-check_front-clause-reply c h of_h =
+    subst (λ reply. ReturnsSearch reply c.from_residual-in_err-check_front.result)
+    (searches_as (view_of c.args.self.now) c.args.query.now h of_h) (returns-in_err-check_front-clause-searches c)
+
+pub returns-clause-searches : goal.returns-clause-searches
+returns-clause-searches c =
+    searched (view_of c.args.self.now) c.args.query.now _ c.in_ok-check_query.ensures.ok c.in_ok-check_front.ensures c.in_ok-answer.ensures
+
+pub returns-clause-reply : goal.returns-clause-reply
+returns-clause-reply c h of_h =
+    sym (searches_as (view_of c.args.self.now) c.args.query.now h of_h) ∙ returns-clause-searches c

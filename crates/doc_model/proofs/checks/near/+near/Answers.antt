@@ -1,18 +1,22 @@
-use Rattle.std.proofs.Common.{ap, sym, ◌∙◌, false, ◌&&◌}
-use Rattle.doc_model.specs.Queries.{near_fit}
-use Rattle.doc_model.proofs.QueryFolds.{fit, near_or, near_and, near_near}
+use Rattle.std.proofs.Common.{ap, sym, not, ◌∙◌, false, true, ◌&&◌}
+use Rattle.std.specs.List.{list_all}
+use Rattle.doc_model.specs.Queries.{fits}
+use Rattle.doc_model.proofs.QueryFolds.{fits_or, fits_and, fits_near}
 use Rattle.doc_model.proofs.checks.near.+near.Goals as goal
 
-pub near_fit-returns-in-Or : goal.near_fit-returns-in-Or
-near_fit-returns-in-Or t c = c.all_fit.ensures ∙ sym (ap near_fit c.in-Or.is ∙ near_or c.in-Or.queries)
+pub fits-returns-in-Or : goal.fits-returns-in-Or
+fits-returns-in-Or t c =
+    c.all_fit.ensures ∙ sym (ap (λ q. fits q c.args.in_near) c.in-Or.is ∙ fits_or c.in-Or.queries c.args.in_near)
 
-pub near_fit-returns-in-And : goal.near_fit-returns-in-And
-near_fit-returns-in-And t c =
-    c.no_child.ensures ∙ ap (λ r. fit false r.fits) c.all_fit-in-And.ensures ∙
-    sym (ap near_fit c.in-And.is ∙ near_and c.in-And.queries)
+pub fits-returns-then-not-in_near : goal.fits-returns-then-not-in_near
+fits-returns-then-not-in_near t c =
+    c.all_fit-then-not-in_near.ensures
+    ∙ sym (ap (λ b. not b && list_all (λ q. fits q true) c.in-Near.queries) c.if-not-in_near.true)
+    ∙ sym (ap (λ q. fits q c.args.in_near) c.in-Near.is ∙ fits_near c.in-Near.queries c.in-Near.distance
+    c.in-Near.ordered c.args.in_near)
 
-pub near_fit-returns-in-Near : goal.near_fit-returns-in-Near
-near_fit-returns-in-Near t c =
-    c.no_child-in-Near.ensures ∙ ap (fit false) (c.is_near_list.ensures ∙ ap (λ r. r.may_be_near && r.fits)
-    c.all_fit-in-Near.ensures)
-    ∙ sym (ap near_fit c.in-Near.is ∙ near_near c.in-Near.queries c.in-Near.distance c.in-Near.ordered)
+pub fits-returns-then-not-in_near-2 : goal.fits-returns-then-not-in_near-2
+fits-returns-then-not-in_near-2 t c =
+    c.all_fit-then-not-in_near-2.ensures
+    ∙ sym (ap (λ b. not b && list_all (λ q. fits q false) c.in-And.queries) c.if-not-in_near-2.true)
+    ∙ sym (ap (λ q. fits q c.args.in_near) c.in-And.is ∙ fits_and c.in-And.queries c.args.in_near)

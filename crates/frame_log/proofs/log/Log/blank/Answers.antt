@@ -1,19 +1,19 @@
-use Rattle.std.proofs.Common.{◌≡◌, ◌≢◌, ◌⊎◌, inl, inr, ⊎_elim, ◌≤◌, ◌^◌, ◌∙◌, ℕ, List, [], ◌∷◌, ◌++◌, length, take, drop, Option, Some, None, IsSome, IfSome, refl, sym, ap, subst, arith}
+use Rattle.std.proofs.Common.{◌≡◌, inl, inr, ◌∙◌, ℕ, List, [], ◌∷◌, length, take, drop, Option, Some, None, IsSome, IfSome, sym, ap, subst, arith}
 use Rattle.disk_model.specs.Changes.{Any, OnlyAt, Becomes}
-use Rattle.disk_model.specs.Logs.{Image, MayCut, Outcomes, Settled, Writes}
+use Rattle.disk_model.specs.Logs.{Image, MayCut, CrashImages, Settled, Writes}
 use Rattle.frame_log.specs.Frames.{HasFrames}
-use Rattle.frame_log.specs.Standing.{Leaves}
+use Rattle.frame_log.specs.LogStates.{Leaves}
 use Rattle.frame_log.specs.declared.frame.TheConstants.{CLOSED}
 use Rattle.frame_log.specs.declared.state.State.{State}
 use Rattle.frame_log.proofs.Changes.{spares_more, told_after}
 use Rattle.frame_log.proofs.log.Log.blank.Goals as goal
 
--- a closed gate stands at the start
+-- a closed gate is at the start
 record IsClosed (bytes : List ℕ) : Type 0 where
   pub behind : List ℕ
   pub is : bytes ≡ CLOSED ∷ behind
 
-closed_written : (file : ℕ) (old mid : Option Image) (left : Outcomes) → IsSome old → Becomes
+closed_written : (file : ℕ) (old mid : Option Image) (left : CrashImages) → IsSome old → Becomes
     (OnlyAt file (Writes 0 (CLOSED ∷ []))) old mid
     → Settled file mid left → (d : Image) → left d → IsClosed (d file)
 closed_written file None mid left told is settled d may = absurd (cc)
@@ -39,33 +39,34 @@ if_told : {A : Type 0} (P : Type 0) (o : Option A) → IsSome o → IfSome o (λ
 if_told P None told is = absurd (cc)
 if_told P (Some x) told is = is
 
-pub returns-in_err-keep-clause-others : goal.returns-in_err-keep-clause-others
-returns-in_err-keep-clause-others g c =
+pub returns-in_err-truncate_synced-clause-others : goal.returns-in_err-truncate_synced-clause-others
+returns-in_err-truncate_synced-clause-others g c =
     let laws = g.met.D.Disk g.world.𝓛 g.world.𝓜 g.world.𝓡 ((λ s x. x), (λ x. x), (λ x. x), λ x. x) in
-    spares_more g.D.Disk.seen g.D.Disk.may_leave g.D.Disk.moment g.D.Disk.left_since c.args.file _ _ _
-    (laws.counts_now c.put.new.disk) c.put.ensures.others c.keep.ensures.others
+    spares_more g.D.Disk c.args.file _ _ _
+    (laws.counts_now c.write_synced.new.disk) c.write_synced.ensures.others c.truncate_synced.ensures.others
 
 pub returns-clause-others : goal.returns-clause-others
 returns-clause-others g c =
     let laws = g.met.D.Disk g.world.𝓛 g.world.𝓜 g.world.𝓡 ((λ s x. x), (λ x. x), (λ x. x), λ x. x) in
-    spares_more g.D.Disk.seen g.D.Disk.may_leave g.D.Disk.moment g.D.Disk.left_since c.args.file _ _ _
-    (laws.counts_now c.put.new.disk) c.put.ensures.others c.keep.ensures.others
+    spares_more g.D.Disk c.args.file _ _ _
+    (laws.counts_now c.write_synced.new.disk) c.write_synced.ensures.others c.truncate_synced.ensures.others
 
 pub returns-clause-empty : goal.returns-clause-empty
 returns-clause-empty g c told =
     let laws = g.met.D.Disk g.world.𝓛 g.world.𝓜 g.world.𝓡 ((λ s x. x), (λ x. x), (λ x. x), λ x. x) in
-    let told_mid = told_after c.args.file Any _ _ c.put.ensures.others.reads told in
-    let told_new = told_after c.args.file Any _ _ c.keep.ensures.others.reads told_mid in
-    let closed = closed_written c.args.file _ _ _ told c.in_ok-put.ensures.written c.in_ok-put.ensures.settled in
-    let cut = c.keep.ensures.cut told_mid in
-    let one = if_told _ _ told_new c.in_ok-keep.ensures.trimmed in
+    let told_mid = told_after c.args.file Any _ _ c.write_synced.ensures.others.reads told in
+    let told_new = told_after c.args.file Any _ _ c.truncate_synced.ensures.others.reads told_mid in
+    let closed = closed_written c.args.file _ _ _ told c.in_ok-write_synced.ensures.written
+    c.in_ok-write_synced.ensures.settled in
+    let cut = c.truncate_synced.ensures.cut told_mid in
+    let one = if_told _ _ told_new c.in_ok-truncate_synced.ensures.trimmed in
     record {
       good = c.ending.ensures.up;
-      stands = record {
+      represents = record {
         told = told_new;
         at_end = c.ending.ensures.place.1;
         images = λ d left.
-            let (e, possible, is) = cut.each d (laws.counts_now c.keep.new.disk _ d cut.later left) in
+            let (e, possible, is) = cut.each d (laws.counts_now c.truncate_synced.new.disk _ d cut.later left) in
             let has = no_frames (d c.args.file) (closed_cut (e c.args.file) (d c.args.file) (closed e possible) is)
             (one d left) in
             subst (λ (s : State). Leaves s [] [] (d c.ending.result.file)) (sym c.ending.ensures.up)

@@ -1,6 +1,6 @@
 use Rattle.std.proofs.Common.{◌≡◌, ◌≢◌, [], length, inr, refl, ◌∙◌, subst, rules, arith}
 use Rattle.frame_log.specs.Frames.{framed}
-use Rattle.frame_log.specs.Standing.{Holds}
+use Rattle.frame_log.specs.LogStates.{Holds}
 use Rattle.frame_log.proofs.Bytes.{none_framed, from_first}
 use Rattle.frame_log.proofs.Stretches.{throughout_still}
 use Rattle.frame_log.proofs.Steps.{leaves_good}
@@ -12,12 +12,12 @@ returns-then-is_empty-clause-frames g c kept holds =
     let laws = g.met.D.Disk g.world.𝓛 g.world.𝓜 g.world.𝓡 ((λ s x. x), (λ x. x), (λ x. x), λ x. x) in
     let log = c.args.self.now in
     let empty : log.end ≡ 0 = search rules in
-    let none : length (framed kept) ≡ 0 = omega (arith, empty, holds.stands.at_end) in
+    let none : length (framed kept) ≡ 0 = omega (arith, empty, holds.represents.at_end) in
     record {
-      now = subst (λ k. Holds g.D.Disk.seen g.D.Disk.may_leave c.args.self.now c.args.disk.now k)
+      now = subst (λ k. Holds g.D.Disk c.args.self.now c.args.disk.now k)
           (none_framed kept none) holds;
       any_moment = throughout_still _ _ _ _ (laws.only_now c.args.disk.now)
-          (λ d left. inr (leaves_good log.state kept [] (d log.file) holds.good (holds.stands.images d left)));
+          (λ d left. inr (leaves_good log.state kept [] (d log.file) holds.good (holds.represents.images d left)));
     }
 
 -- the first gate is the one that is closed
@@ -25,10 +25,10 @@ pub returns-clause-frames : goal.returns-clause-frames
 returns-clause-frames g c kept holds =
     let log = c.args.self.now in
     let full : log.end ≢ 0 = search rules in
-    let some : length (framed kept) ≢ 0 = λ (none : length (framed kept) ≡ 0). full (holds.stands.at_end ∙ none) in
+    let some : length (framed kept) ≢ 0 = λ (none : length (framed kept) ≡ 0). full (holds.represents.at_end ∙ none) in
     c.revive.ensures.frames [] kept (record {
-      told = holds.stands.told;
+      told = holds.represents.told;
       at_end = refl;
       images = λ d left. from_first kept (d log.file) (leaves_good log.state kept [] (d log.file) holds.good
-          (holds.stands.images d left)) some;
+          (holds.represents.images d left)) some;
     })

@@ -9,61 +9,64 @@ use Rattle.frame_log.proofs.log.Log.revive.Goals as goal
 
 -- the gate wasn't closed and synced
 pub returns-in_err-shut-clause-frames : goal.returns-in_err-shut-clause-frames
-returns-in_err-shut-clause-frames g c kept more stands =
+returns-in_err-shut-clause-frames g c kept more represents =
     let error = err_from_is_err_and c.from_residual.result c.from_residual.ensures.1 in
-    let (mid, moments) = c.shut.ensures.frames kept more stands in
+    let (mid, moments) = c.shut.ensures.frames kept more represents in
     record { now = rw error.1 mid; any_moment = moments }
 
 -- what is behind the gate wasn't cut and synced
-pub returns-in_err-keep-clause-frames : goal.returns-in_err-keep-clause-frames
-returns-in_err-keep-clause-frames g c kept more stands =
+pub returns-in_err-truncate_synced-clause-frames : goal.returns-in_err-truncate_synced-clause-frames
+returns-in_err-truncate_synced-clause-frames g c kept more represents =
     let laws = g.met.D.Disk g.world.𝓛 g.world.𝓜 g.world.𝓡 ((λ s x. x), (λ x. x), (λ x. x), λ x. x) in
     let log = c.shut.new.self in
-    let (mid, moments) = c.shut.ensures.frames kept more stands in
+    let (mid, moments) = c.shut.ensures.frames kept more represents in
     let has : Each log.file (g.D.Disk.may_leave c.shut.new.disk) (HasFrames kept) = λ d was. leaves_shut log.state
     kept more (d log.file) c.in_ok-shut.ensures.shut (mid.images d was) in
-    let all = cuts_behind g.D.Disk.seen g.D.Disk.may_leave g.D.Disk.moment g.D.Disk.left_since log.file log.end kept
-    mid.at_end c.shut.new.disk c.keep.new.disk has (c.keep.ensures.cut mid.told) in
-    let error = err_from_is_err_and c.from_residual-in_err-keep.result c.from_residual-in_err-keep.ensures.1 in
+    let all = cuts_behind g.D.Disk log.file log.end kept
+    mid.at_end c.shut.new.disk c.truncate_synced.new.disk has (c.truncate_synced.ensures.cut mid.told) in
+    let error = err_from_is_err_and c.from_residual-in_err-truncate_synced.result
+    c.from_residual-in_err-truncate_synced.ensures.1 in
     record {
       now = rw error.1 (record {
-        told = told_after log.file Any _ _ c.keep.ensures.others.reads mid.told;
+        told = told_after log.file Any _ _ c.truncate_synced.ensures.others.reads mid.told;
         at_end = mid.at_end;
-        images = at_last g.D.Disk.seen g.D.Disk.may_leave g.D.Disk.moment g.D.Disk.left_since log.file log.end kept
-            mid.at_end (HasFrames kept) c.shut.new.disk c.keep.new.disk (laws.counts_now c.keep.new.disk) all;
+        images = at_last g.D.Disk log.file log.end kept
+            mid.at_end (HasFrames kept) c.shut.new.disk c.truncate_synced.new.disk
+            (laws.counts_now c.truncate_synced.new.disk) all;
       });
       any_moment = throughout_then _ _ _ _ _ _ (λ d. MayHave kept more (d log.file)) moments
           (throughout_weaker _ _ _ _ (λ d. HasFrames kept (d log.file)) (λ d. MayHave kept more (d log.file)) all
           (λ d is. inl is));
     }
 
-pub returns-in_err-keep-clause-disk : goal.returns-in_err-keep-clause-disk
-returns-in_err-keep-clause-disk g c =
+pub returns-in_err-truncate_synced-clause-disk : goal.returns-in_err-truncate_synced-clause-disk
+returns-in_err-truncate_synced-clause-disk g c =
     let laws = g.met.D.Disk g.world.𝓛 g.world.𝓜 g.world.𝓡 ((λ s x. x), (λ x. x), (λ x. x), λ x. x) in
     record {
-      others = spares_more g.D.Disk.seen g.D.Disk.may_leave g.D.Disk.moment g.D.Disk.left_since _ _ _ _
-          (laws.counts_now c.shut.new.disk) c.shut.ensures.disk.others c.keep.ensures.others;
-      within = c.keep.ensures.longer;
+      others = spares_more g.D.Disk _ _ _ _
+          (laws.counts_now c.shut.new.disk) c.shut.ensures.disk.others c.truncate_synced.ensures.others;
+      within = c.truncate_synced.ensures.longer;
     }
 
--- nothing stands behind the closed gate
+-- nothing is behind the closed gate
 pub returns-clause-frames : goal.returns-clause-frames
-returns-clause-frames g c kept more stands =
+returns-clause-frames g c kept more represents =
     let laws = g.met.D.Disk g.world.𝓛 g.world.𝓜 g.world.𝓡 ((λ s x. x), (λ x. x), (λ x. x), λ x. x) in
     let log = c.shut.new.self in
-    let (mid, moments) = c.shut.ensures.frames kept more stands in
+    let (mid, moments) = c.shut.ensures.frames kept more represents in
     let has : Each log.file (g.D.Disk.may_leave c.shut.new.disk) (HasFrames kept) = λ d was. leaves_shut log.state
     kept more (d log.file) c.in_ok-shut.ensures.shut (mid.images d was) in
-    let all = cuts_behind g.D.Disk.seen g.D.Disk.may_leave g.D.Disk.moment g.D.Disk.left_since log.file log.end kept
-    mid.at_end c.shut.new.disk c.keep.new.disk has (c.keep.ensures.cut mid.told) in
+    let all = cuts_behind g.D.Disk log.file log.end kept
+    mid.at_end c.shut.new.disk c.truncate_synced.new.disk has (c.truncate_synced.ensures.cut mid.told) in
     record {
       now = record {
         good = refl;
-        stands = record {
-          told = told_after log.file Any _ _ c.keep.ensures.others.reads mid.told;
+        represents = record {
+          told = told_after log.file Any _ _ c.truncate_synced.ensures.others.reads mid.told;
           at_end = mid.at_end;
-          images = at_last g.D.Disk.seen g.D.Disk.may_leave g.D.Disk.moment g.D.Disk.left_since log.file log.end kept
-              mid.at_end (HasFrames kept) c.shut.new.disk c.keep.new.disk (laws.counts_now c.keep.new.disk) all;
+          images = at_last g.D.Disk log.file log.end kept
+              mid.at_end (HasFrames kept) c.shut.new.disk c.truncate_synced.new.disk
+              (laws.counts_now c.truncate_synced.new.disk) all;
         };
       };
       any_moment = throughout_then _ _ _ _ _ _ (λ d. MayHave kept more (d log.file)) moments
@@ -75,7 +78,7 @@ pub returns-clause-disk : goal.returns-clause-disk
 returns-clause-disk g c =
     let laws = g.met.D.Disk g.world.𝓛 g.world.𝓜 g.world.𝓡 ((λ s x. x), (λ x. x), (λ x. x), λ x. x) in
     record {
-      others = spares_more g.D.Disk.seen g.D.Disk.may_leave g.D.Disk.moment g.D.Disk.left_since _ _ _ _
-          (laws.counts_now c.shut.new.disk) c.shut.ensures.disk.others c.keep.ensures.others;
-      within = c.keep.ensures.longer;
+      others = spares_more g.D.Disk _ _ _ _
+          (laws.counts_now c.shut.new.disk) c.shut.ensures.disk.others c.truncate_synced.ensures.others;
+      within = c.truncate_synced.ensures.longer;
     }

@@ -18,13 +18,12 @@ pub returns-in-0-clause-frame : goal.returns-in-0-clause-frame
 returns-in-0-clause-frame g c =
     let laws = g.met.D.Disk g.world.𝓛 g.world.𝓜 g.world.𝓡 ((λ s x. x), (λ x. x), (λ x. x), λ x. x) in
     let is : c.args.file ≡ 0 = omega arith in
-    rw is (appends g.D.Disk.seen g.D.Disk.may_leave g.D.Disk.moment g.D.Disk.left_since 0 (omega arith)
+    rw is (appends g.D.Disk 0 (omega arith)
     c.args.self.now _ _ _ (only_zero c.args.self.now _ refl refl refl refl refl) c.append.ensures.disk
-    g.D.Disk.faults
     c.args.frame.now _ (laws.counts_now c.append.new.disk) c.append.ensures.answer c.append.ensures.frames)
 
 pub returns-in-0-clause-within : goal.returns-in-0-clause-within
-returns-in-0-clause-within g c = all_within g.D.Disk.seen g.D.Disk.may_leave g.D.Disk.moment g.D.Disk.left_since 0
+returns-in-0-clause-within g c = all_within g.D.Disk 0
     (omega arith) c.args.self.now _ _ _ (only_zero c.args.self.now _ refl refl refl refl refl) c.append.ensures.disk
     c.requires.within
 
@@ -32,14 +31,13 @@ pub returns-in-1-clause-frame : goal.returns-in-1-clause-frame
 returns-in-1-clause-frame g c =
     let laws = g.met.D.Disk g.world.𝓛 g.world.𝓜 g.world.𝓡 ((λ s x. x), (λ x. x), (λ x. x), λ x. x) in
     let is : c.args.file ≡ 1 = omega arith in
-    rw is (appends g.D.Disk.seen g.D.Disk.may_leave g.D.Disk.moment g.D.Disk.left_since 1 (omega arith)
+    rw is (appends g.D.Disk 1 (omega arith)
     c.args.self.now _ _ _ (only_one c.args.self.now _ refl refl refl refl refl) c.append-in-1.ensures.disk
-    g.D.Disk.faults
     c.args.frame.now _ (laws.counts_now c.append-in-1.new.disk) c.append-in-1.ensures.answer
     c.append-in-1.ensures.frames)
 
 pub returns-in-1-clause-within : goal.returns-in-1-clause-within
-returns-in-1-clause-within g c = all_within g.D.Disk.seen g.D.Disk.may_leave g.D.Disk.moment g.D.Disk.left_since 1
+returns-in-1-clause-within g c = all_within g.D.Disk 1
     (omega arith) c.args.self.now _ _ _ (only_one c.args.self.now _ refl refl refl refl refl)
     c.append-in-1.ensures.disk c.requires.within
 
@@ -47,14 +45,13 @@ pub returns-in-2-clause-frame : goal.returns-in-2-clause-frame
 returns-in-2-clause-frame g c =
     let laws = g.met.D.Disk g.world.𝓛 g.world.𝓜 g.world.𝓡 ((λ s x. x), (λ x. x), (λ x. x), λ x. x) in
     let is : c.args.file ≡ 2 = omega arith in
-    rw is (appends g.D.Disk.seen g.D.Disk.may_leave g.D.Disk.moment g.D.Disk.left_since 2 (omega arith)
+    rw is (appends g.D.Disk 2 (omega arith)
     c.args.self.now _ _ _ (only_two c.args.self.now _ refl refl refl refl refl) c.append-in-2.ensures.disk
-    g.D.Disk.faults
     c.args.frame.now _ (laws.counts_now c.append-in-2.new.disk) c.append-in-2.ensures.answer
     c.append-in-2.ensures.frames)
 
 pub returns-in-2-clause-within : goal.returns-in-2-clause-within
-returns-in-2-clause-within g c = all_within g.D.Disk.seen g.D.Disk.may_leave g.D.Disk.moment g.D.Disk.left_since 2
+returns-in-2-clause-within g c = all_within g.D.Disk 2
     (omega arith) c.args.self.now _ _ _ (only_two c.args.self.now _ refl refl refl refl refl)
     c.append-in-2.ensures.disk c.requires.within
 
@@ -62,13 +59,12 @@ pub returns-in_default-clause-frame : goal.returns-in_default-clause-frame
 returns-in_default-clause-frame g c =
     let laws = g.met.D.Disk g.world.𝓛 g.world.𝓜 g.world.𝓡 ((λ s x. x), (λ x. x), (λ x. x), λ x. x) in
     let is : c.args.file ≡ 3 = omega arith in
-    rw is (appends g.D.Disk.seen g.D.Disk.may_leave g.D.Disk.moment g.D.Disk.left_since 3 (omega arith)
+    rw is (appends g.D.Disk 3 (omega arith)
     c.args.self.now _ _ _ (only_three c.args.self.now _ refl refl refl refl refl) c.append-in_default.ensures.disk
-    g.D.Disk.faults
     c.args.frame.now _ (laws.counts_now c.append-in_default.new.disk) c.append-in_default.ensures.answer
     c.append-in_default.ensures.frames)
 
 pub returns-in_default-clause-within : goal.returns-in_default-clause-within
-returns-in_default-clause-within g c = all_within g.D.Disk.seen g.D.Disk.may_leave g.D.Disk.moment g.D.Disk.left_since
+returns-in_default-clause-within g c = all_within g.D.Disk
     3 (omega arith) c.args.self.now _ _ _ (only_three c.args.self.now _ refl refl refl refl refl)
     c.append-in_default.ensures.disk c.requires.within

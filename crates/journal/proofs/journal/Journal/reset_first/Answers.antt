@@ -8,7 +8,7 @@ use Rattle.journal.proofs.journal.Journal.reset_first.Goals as goal
 pub returns-clause-frames : goal.returns-clause-frames
 returns-clause-frames g c =
     let laws = g.met.D.Disk g.world.𝓛 g.world.𝓜 g.world.𝓡 ((λ s x. x), (λ x. x), (λ x. x), λ x. x) in
-    resets g.D.Disk.seen g.D.Disk.may_leave g.D.Disk.moment g.D.Disk.left_since c.args.self.now _ _ _
+    resets g.D.Disk c.args.self.now _ _ _
     (only_zero c.args.self.now _ refl refl refl refl refl) c.reset.ensures.disk (laws.counts_now c.reset.new.disk)
     c.reset.result c.requires.up c.reset.ensures.frames
 
@@ -17,9 +17,9 @@ returns-clause-trimmed g c =
     let laws = g.met.D.Disk g.world.𝓛 g.world.𝓜 g.world.𝓡 ((λ s x. x), (λ x. x), (λ x. x), λ x. x) in
     let lt : 0 < LOG_COUNT = omega arith in
     let only = only_zero c.args.self.now _ refl refl refl refl refl in
-    let kept = others_trimmed g.D.Disk.seen g.D.Disk.may_leave g.D.Disk.moment g.D.Disk.left_since 0 c.args.self.now _
+    let kept = others_trimmed g.D.Disk 0 c.args.self.now _
     _ _
-    only (spares g.D.Disk.seen g.D.Disk.may_leave g.D.Disk.moment g.D.Disk.left_since 0 lt c.args.self.now
+    only (spares g.D.Disk 0 lt c.args.self.now
     _ _ _ only c.reset.ensures.disk) (laws.counts_now c.reset.new.disk) in
-    all_reset g.D.Disk.seen g.D.Disk.may_leave g.D.Disk.faults c.args.self.now _ c.args.disk.now c.reset.new.disk
+    all_reset g.D.Disk c.args.self.now _ c.args.disk.now c.reset.new.disk
     c.reset.result kept c.reset.ensures.answer c.reset.ensures.trimmed

@@ -6,7 +6,7 @@ pub loop-file-init : goal.loop-file-init
 loop-file-init g c =
     let laws = g.met.D.Disk g.world.𝓛 g.world.𝓜 g.world.𝓡 ((λ s x. x), (λ x. x), (λ x. x), λ x. x) in
     record {
-      frames = keeps_still g.D.Disk.seen g.D.Disk.may_leave g.D.Disk.moment g.D.Disk.left_since c.args.self.now
+      frames = keeps_still g.D.Disk c.args.self.now
           c.args.disk.now (laws.only_now c.args.disk.now);
       up = record { each = λ file lt. absurd (omega arith) };
       trimmed = record { each = λ file lt. absurd (omega arith) };

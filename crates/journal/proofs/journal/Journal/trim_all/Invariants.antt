@@ -1,11 +1,11 @@
 use Rattle.std.proofs.Common.{◌≤◌}
 use Rattle.journal.specs.Reading.{AreTrimmed, AreUpTo, KeepsFrames, SameTurns}
-use Rattle.journal.specs.Standing.{AreWithin}
+use Rattle.journal.specs.JournalStates.{AreWithin}
 use Rattle.journal.proofs.journal.Journal.trim_all.Given as goal
 
 abbrev pub invariant-loop-file : goal.invariant-loop-file
 invariant-loop-file g l = record {
-  frames : KeepsFrames g.D.Disk.seen g.D.Disk.may_leave g.D.Disk.moment g.D.Disk.left_since l.fn.self l.self l.fn.disk
+  frames : KeepsFrames g.D.Disk l.fn.self l.self l.fn.disk
       l.disk;
   up : AreUpTo l.file l.self;
   trimmed : AreTrimmed l.file l.self (g.D.Disk.seen l.disk) (g.D.Disk.may_leave l.disk);

@@ -80,13 +80,15 @@ returns-clause-directories c =
     let seat : StoreSeat = record { directory = old.directory; out = old.out; back = Some c.of.result } in
     same_directories seats n seat old c.index_mut-seat.ensures.value refl
 
-pub returns-in-Ok-insert-clause-stands : goal.returns-in-Ok-insert-clause-stands
-returns-in-Ok-insert-clause-stands c =
+pub returns-in-Ok-insert-clause-stored : goal.returns-in-Ok-insert-clause-stored
+returns-in-Ok-insert-clause-stored c =
     let seats = c.args.self.now.store_seats.items in
     let n = c.args.self.now.stores_returned in
     let dir = string_bytes c.in-Ok.directory in
-    let sets = btree_map_updates_text dir c.args.self.now.directories c.insert.new.self _ c.in-Ok-insert.ensures.updates in
-    let is_due = room (λ (s : StoreSeat). option_map (λ b. b.value) s.back) (λ (s : StoreSeat). s.out.value) seats n c.requires in
+    let sets = btree_map_updates_text dir c.args.self.now.directories c.insert.new.self _
+    c.in-Ok-insert.ensures.updates in
+    let is_due = room (λ (s : StoreSeat). option_map (λ b. b.value) s.back) (λ (s : StoreSeat). s.out.value) seats n
+    c.requires in
     stands_there seats n c.index_mut-seat.result.now dir c.args.self.now.directories c.insert.new.self c.args.store
     is_due c.index_mut-seat.ensures.value c.in-Ok.ensures.cases sets
 
@@ -95,7 +97,9 @@ returns-in-Ok-insert-clause-others c =
     let seats = c.args.self.now.store_seats.items in
     let n = c.args.self.now.stores_returned in
     let dir = string_bytes c.in-Ok.directory in
-    let sets = btree_map_updates_text dir c.args.self.now.directories c.insert.new.self _ c.in-Ok-insert.ensures.updates in
-    let is_due = room (λ (s : StoreSeat). option_map (λ b. b.value) s.back) (λ (s : StoreSeat). s.out.value) seats n c.requires in
+    let sets = btree_map_updates_text dir c.args.self.now.directories c.insert.new.self _
+    c.in-Ok-insert.ensures.updates in
+    let is_due = room (λ (s : StoreSeat). option_map (λ b. b.value) s.back) (λ (s : StoreSeat). s.out.value) seats n
+    c.requires in
     others_stand seats n c.index_mut-seat.result.now dir c.args.self.now.directories c.insert.new.self c.args.store
     is_due c.index_mut-seat.ensures.value c.in-Ok.ensures.cases sets

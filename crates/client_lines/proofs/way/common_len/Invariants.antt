@@ -1,5 +1,0 @@
-use Rattle.std.proofs.Common.{◌≡◌, ℕ, take, min, length, ◌≤◌}
-use Rattle.client_lines.proofs.way.common_len.Given as goal
-
-abbrev pub invariant-loop-i : goal.invariant-loop-i
-invariant-loop-i l = take l.i l.line ≡ take l.i l.head

@@ -1,5 +1,0 @@
-use Rattle.doc_engine.proofs.Standings.{standing_is_shown}
-use Rattle.doc_engine.proofs.laws.standing_is_shown.Goals as goal
-
-pub returns : goal.returns
-returns g c = standing_is_shown g.D.Disk.seen g.D.Disk.may_leave

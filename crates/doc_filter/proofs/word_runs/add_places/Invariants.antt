@@ -1,8 +1,0 @@
-use Rattle.std.proofs.Common.{◌≡◌, ◌+◌, ◌++◌, filter, map}
-use Rattle.std.specs.List.{range_with_len}
-use Rattle.doc_filter.proofs.RunLemmas.{starts_at}
-use Rattle.doc_filter.proofs.word_runs.add_places.Given as goal
-
-abbrev pub invariant-loop-place : goal.invariant-loop-place
-invariant-loop-place l =
-    l.out ≡ l.fn.out ++ map (λ j. l.base + j) (filter (starts_at l.wanted l.seen) (range_with_len 0 l.place))
