@@ -10,6 +10,8 @@ import threading
 
 PROGRAM, KILLS = sys.argv[1], int(sys.argv[2])
 LONGEST = 0.1
+# No run of the program takes so long.
+SECONDS = 60
 
 
 def start(directory):
@@ -21,7 +23,7 @@ def put_until_killed(directory, turn):
     the directory, else behind the first of them."""
     process = start(directory)
     killer = threading.Timer(random.uniform(0, LONGEST), process.kill)
-    guard = threading.Timer(60, process.kill)
+    guard = threading.Timer(SECONDS, process.kill)
     guard.start()
     acknowledged = 0
     try:
@@ -56,7 +58,7 @@ def put_until_killed(directory, turn):
 def found(directory, turn):
     """How many of the turn's first puts are there, without a gap, and how many entries there are."""
     asked = b'search {"wordQuery":{"text":["turn%d"]}}\nquit\n' % turn
-    done = subprocess.run([PROGRAM, "run", directory], input=asked, stdout=subprocess.PIPE)
+    done = subprocess.run([PROGRAM, "run", directory], input=asked, stdout=subprocess.PIPE, timeout=SECONDS)
     lines = done.stdout.splitlines()
     if done.returncode != 0 or lines[-1] != b"bye":
         sys.exit("opening after a kill ended with status %d, and %r" % (done.returncode, done.stdout[-64:]))
@@ -79,7 +81,7 @@ def main():
     missing = more = most = acknowledged = 0
     with tempfile.TemporaryDirectory() as work:
         directory = os.path.join(work, "d")
-        subprocess.run([PROGRAM, "init", directory], stdout=subprocess.DEVNULL, check=True)
+        subprocess.run([PROGRAM, "init", directory], stdout=subprocess.DEVNULL, check=True, timeout=SECONDS)
         entries = 0
         for turn in range(1, KILLS + 1):
             told = put_until_killed(directory, turn)
