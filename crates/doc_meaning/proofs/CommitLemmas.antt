@@ -39,7 +39,7 @@ op_leaves at (Put document expect) db = get-insert nat_list_cmp_total db documen
 op_leaves at (Remove uri expect) db =
     get-remove nat_list_cmp_total db uri uri ∙ cond-true _ _ _ (ap is_eq (tied_itself nat_list_cmp_total uri))
 
-ops_leave : (at : ℕ) (ops : List Op) (db : Database) (k : ℕ) (op : Op) → is_distinct (map uri_of ops) ≡ true →
+pub ops_leave : (at : ℕ) (ops : List Op) (db : Database) (k : ℕ) (op : Op) → is_distinct (map uri_of ops) ≡ true →
     slice_get ops k ≡ Some op →
     get (after_ops at ops db) (uri_of op) ≡ left_by at op
 ops_leave at [] db k op distinct is = absurd (subst_none is)

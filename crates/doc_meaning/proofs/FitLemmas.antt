@@ -1,4 +1,4 @@
--- A tree has no more words than its size.
+-- A tree has fewer words than its size.
 use Rattle.std.proofs.Common.{◌≡◌, ℕ, zero, suc, ◌+◌, ◌*◌, ◌-◌, ◌≤◌, ◌<◌, ◌^◌, ◌++◌, All, IsTrue, is_none, nat_lt}
 use Rattle.std.proofs.Common.{Bool, true, false, cond, eqb, List, [], ◌∷◌, map, flat_map, length, sum, sum_by, Option}
 use Rattle.std.proofs.Common.{None, Some, refl, sym, ap, ◌∙◌, subst, arith, chars}
@@ -67,7 +67,7 @@ abbrev pub word_count : List (Property × List ℕ) → ℕ
 word_count = sum_by (λ s. length (plain s.1))
 
 abbrev Fits : Node → Type 0
-Fits n = (property : Property) → word_count (strings_under n property) ≤ size n
+Fits n = (property : Property) → word_count (strings_under n property) < size n
 
 abbrev Fitting : Type 0
 Fitting = (n : Node) × Fits n
@@ -101,7 +101,7 @@ items_fit (e ∷ ys) property =
     let sizes : ℕ = sum (map size (map (λ d. d.0) ys)) in
     subst (λ total. word_count (filter_map text_of (scalars_under e.0 property ++ rest)) ≤ total)
     (sym (sum_by-cons (λ n. n) (size e.0) (map size (map (λ d. d.0) ys))))
-    (together (scalars_under e.0 property) rest (size e.0) sizes (e.1 property) (items_fit ys property))
+    (together (scalars_under e.0 property) rest (size e.0) sizes (omega (arith, e.1 property)) (items_fit ys property))
 
 -- the nodes of members, their scalars and their sizes, each under the member's name
 abbrev nodes_named : List (List ℕ × Fitting) → List (List ℕ × Node)
@@ -135,7 +135,7 @@ step y property = rw (strings_roll, size_roll) (go y)
     under y = map-Node Node (Property → List (Property × Scalar)) scalars_under (inner y)
 
     go : (y : Node-F Fitting) →
-        word_count (filter_map text_of (scalars_step (under y) property)) ≤ size_step (map-Node Node ℕ size (inner y))
+        word_count (filter_map text_of (scalars_step (under y) property)) < size_step (map-Node Node ℕ size (inner y))
     go Node-F.Null = omega arith
     go (Node-F.Bool b) = omega arith
     go (Node-F.Num n) = omega arith

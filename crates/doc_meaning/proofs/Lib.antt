@@ -10,10 +10,14 @@ pub mod MapLemmas
 pub mod MeaningLemmas
 pub mod NearLemmas
 pub mod PositionLemmas
+pub mod PrefixLemmas
+pub mod ReplyLemmas
 pub mod RisingLemmas
 pub mod ScalarLemmas
 pub mod ShownLemmas
 pub mod SortedLemmas
 pub mod PhraseStartLemmas
+pub mod StringLemmas
+pub mod VersionLemmas
 pub mod WordBoundsLemmas
 pub mod WordsLemmas

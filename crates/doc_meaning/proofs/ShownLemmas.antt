@@ -1,5 +1,5 @@
 -- What a history shows is a base again.
-use Rattle.std.proofs.Common.{◌≡◌, ◌⊎◌, inl, inr, ⊎_elim, ℕ, suc, ◌+◌, ◌-◌, ◌<◌, ◌≤◌, Bool, true, false, cond, leb, List, [], ◌∷◌, length, take, Option, Some, None, bytes_eq, refl, sym, ap, ◌∙◌, subst, arith}
+use Rattle.std.proofs.Common.{◌≡◌, ◌⊎◌, inl, inr, ⊎_elim, ℕ, suc, ◌+◌, ◌-◌, ◌<◌, ◌≤◌, Bool, true, false, cond, leb, List, [], ◌∷◌, length, take, Some, None, bytes_eq, refl, sym, ap, ◌∙◌, arith}
 use Rattle.std.proofs.lemmas.Bool.{cond-false, cond-true}
 use Rattle.std.proofs.lemmas.Cmp.{nat_list_cmp_total}
 use Rattle.std.proofs.lemmas.Bool.Decides.{leb_tells}
@@ -22,10 +22,10 @@ use Rattle.doc_meaning.specs.Laws.{ShownIsABase}
 abbrev AreKeyed : Database → Type 0
 AreKeyed db = (uri : List ℕ) (v : Version) → get db uri ≡ Some v → v.document.uri ≡ uri
 
-same_some : {A : Type 0} (a b : A) → Some a ≡ Some b → a ≡ b
+pub same_some : {A : Type 0} (a b : A) → Some a ≡ Some b → a ≡ b
 same_some a b e = cc
 
-none_some : {A : Type 0} (a : A) → None ≡ Some a → ⊥
+pub none_some : {A : Type 0} (a : A) → None ≡ Some a → ⊥
 none_some a e = cc
 
 -- a version that is found after an operation is the one that it puts, or was there
@@ -102,7 +102,7 @@ found_after_entries begin (entry ∷ entries) db uri v is =
     next : (n : ℕ) → take (n + 1) (entry ∷ entries) ≡ entry ∷ take n entries
     next n = let e : n + 1 ≡ suc n = omega arith in rw e refl
 
-merges_in_order : (at low : ℕ) (entries : List Entry) → low ≤ at → AreEntries at low entries →
+pub merges_in_order : (at low : ℕ) (entries : List Entry) → low ≤ at → AreEntries at low entries →
     (low ≤ merge_after low entries) × (merge_after low entries ≤ at + length entries)
 merges_in_order at low [] le are = (omega arith, omega arith)
 merges_in_order at low (Commit ops ∷ entries) le are =

@@ -1,11 +1,16 @@
 pub mod Answers
+pub mod DatabaseLaws
 pub mod Estimates
 pub mod History
 pub mod Laws
 pub mod Meaning
 pub mod Near
+pub mod PrefixLaws
 pub mod Replies
+pub mod ReplyLaws
 pub mod Runs
+pub mod StringLaws
 pub mod Strings
 pub mod Values
+pub mod VersionLaws
 pub mod Words

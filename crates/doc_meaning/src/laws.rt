@@ -1,6 +1,8 @@
-ghost use Rattle.doc_meaning.specs.Laws.{AndSatisfiesEach, NearHoldsFurther, NearIsAChoice, RisingRises, WordsAreMaximalRuns};
+ghost use Rattle.doc_meaning.specs.Laws.{AndSatisfiesEach, NearHoldsFurther, NearIsAChoice, RisingRises};
+ghost use Rattle.doc_meaning.specs.Laws.{WordsAreMaximalRuns};
 ghost use Rattle.doc_meaning.specs.Laws.{AnswersAreSorted, EstimateIsNoLess, SatisfiesMaybe, SureSatisfies};
-ghost use Rattle.doc_meaning.specs.Laws.{FirstEndsThere, FirstIsTheSame, LaterEntriesChangeNothing, ShownIsABase, ShownIsTheSame};
+ghost use Rattle.doc_meaning.specs.Laws.{FirstEndsThere, FirstIsTheSame, LaterEntriesChangeNothing, ShownIsABase};
+ghost use Rattle.doc_meaning.specs.Laws.{ShownIsTheSame};
 ghost use Rattle.doc_meaning.specs.Laws.{OthersStay, PutIsLive, RemovedIsGone};
 
 /// The words of a text are exactly its maximal runs of word characters.
