@@ -1,4 +1,5 @@
-ghost use Rattle.std.specs.Prelude.{◌≡◌, ◌∷◌, [], ◌^◌, ◌+◌, ◌↔◌, IsTrue, Some, false, ◌≤◌, ◌<◌, ℕ, List, length, take, slice_index, min, max, ◌||◌};
+ghost use Rattle.std.specs.Prelude.{◌≡◌, ◌∷◌, [], ◌^◌, ◌+◌, ◌↔◌, IsTrue, Some, false, ◌≤◌, ◌<◌, ℕ, List, length};
+ghost use Rattle.std.specs.Prelude.{take, slice_index, min, max, ◌||◌};
 ghost use Rattle.client_lines.specs.Rows.{Behind, Matches, MatchesSome, IsTail, IsLast, IsOfRow, IsOfSome};
 
 use crate::row::{Last, Row, WordKind};

@@ -1,4 +1,5 @@
-//! The first faulty node of a tree, by one walk in the order of the text: a node's own test comes first, then its parts.
+//! The first faulty node of a tree, by one walk in the order of the text: a node's own test comes first, then its
+//! parts.
 
 ghost use Rattle.std.specs.Prelude.{◌+◌, ◌<◌, ◌^◌, sum_by};
 ghost use Rattle.cts_meaning.specs.Faults.{node_count};

@@ -1,7 +1,8 @@
 //! Canonical objects, arrays and options.
 
 ghost use Rattle.std.specs.Prelude.{◌≡◌, ◌++◌, ◌∷◌, [], map, IfOk, OnOk};
-ghost use Rattle.cts_meaning.specs.Canonical.{case_options, option_if, options_member, query_object, scalars_node, texts_node};
+ghost use Rattle.cts_meaning.specs.Canonical.{case_options, option_if, options_member, query_object, scalars_node};
+ghost use Rattle.cts_meaning.specs.Canonical.{texts_node};
 ghost use Rattle.cts_meaning.specs.Shapes.{scalar_node};
 ghost use Rattle.doc_model.specs.declared.node.Node.TheVariants as node;
 

@@ -2,7 +2,8 @@
 
 ghost use Rattle.std.specs.Prelude.{◌≡◌};
 ghost use Rattle.doc_model.specs.Tree.{is_among};
-ghost use Rattle.cts_meaning.specs.Shapes.{both_cases, both_orders, has_rivals, has_text, is_language, is_option, is_text};
+ghost use Rattle.cts_meaning.specs.Shapes.{both_cases, both_orders, has_rivals, has_text, is_language, is_option};
+ghost use Rattle.cts_meaning.specs.Shapes.{is_text};
 
 use crate::kinds::text_of;
 use cts_meaning::OptionKind;

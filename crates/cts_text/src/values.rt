@@ -5,7 +5,8 @@ ghost use Rattle.std.specs.List.{flat_map};
 ghost use Rattle.std.specs.Option.{option_copied};
 ghost use Rattle.doc_model.specs.Tree.{is_among};
 ghost use Rattle.cts_meaning.specs.Saying.{value_of};
-ghost use Rattle.cts_text.specs.Values.{case_in, compare_in, distance_in, has_option, is_infinite, own_scalar, own_text, scalars_in, scalars_of, texts_in, texts_of};
+ghost use Rattle.cts_text.specs.Values.{case_in, compare_in, distance_in, has_option, is_infinite, own_scalar};
+ghost use Rattle.cts_text.specs.Values.{own_text, scalars_in, scalars_of, texts_in, texts_of};
 
 use crate::compare::compare_named;
 use crate::distance::{DEFAULT_DISTANCE, whole_distance};

@@ -1,7 +1,9 @@
 //! Which calls are to fail.
 
-ghost use Rattle.std.specs.Prelude.{◌↔◌, IsTrue};
+ghost use Rattle.std.specs.Prelude.{◌≡◌, ◌↔◌, [], IfOk, IsTrue, None};
 ghost use Rattle.disk_memory.specs.Plans.{IsPast, IsListed, IsVerdict};
+
+use std::alloc::{AllocError, Global};
 
 /// Whether a call is done or fails.
 #[derive(Clone, Copy, Debug, PartialEq, Eq)]
@@ -19,6 +21,26 @@ pub struct Plan {
 }
 
 impl Plan {
+    /// A plan by which no call fails.
+    pub fn none(alloc: Global) -> Plan
+        ensures failing { result.failing.items ≡ [] }
+        ensures stop { result.stop ≡ None }
+    {
+        Plan {
+            failing: Vec::new(alloc),
+            stop: None,
+        }
+    }
+
+    /// A plan by which these calls fail, and everything stops after so many, if any.
+    pub fn of(alloc: Global, failing: &[u64], stop: Option<u64>) -> Result<Plan, AllocError>
+        ensures failing { IfOk result (λ plan. plan.failing.items ≡ failing.now) }
+        ensures stop { IfOk result (λ plan. plan.stop ≡ stop) }
+    {
+        let failing = failing.to_vec(alloc)?;
+        Ok(Plan { failing, stop })
+    }
+
     /// Whether the call comes after the stop.
     pub fn is_stopped(&self, call: u64) -> bool
         ensures { IsTrue result ↔ IsPast self.now call }

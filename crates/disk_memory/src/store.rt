@@ -20,11 +20,7 @@ pub fn blank_store(alloc: Global) -> Result<MemoryStore, AllocError>
     ensures { IfOk result (λ store. IsBlank (⟦<MemoryDisk as Disk>⟧.seen store.disk)
         (⟦<MemoryDisk as Disk>⟧.may_leave store.disk) (⟦<MemoryYard as Yard>⟧.holds store.yard)) }
 {
-    let plan = Plan {
-        failing: Vec::new(alloc),
-        stop: None,
-    };
-    let meter = Meter::new(alloc, plan)?;
+    let meter = Meter::new(alloc, Plan::none(alloc))?;
     let contents = blank_logs(alloc)?;
     Ok(Store {
         disk: MemoryDisk::new(alloc, contents, meter.share()?)?,

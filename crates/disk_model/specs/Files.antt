@@ -6,6 +6,14 @@ pub record Slot : Type 0 where
   pub sealed : Option (List ℕ)
   pub mark : Option ℕ
 
+-- the bytes of each number that has a sealed file
+abbrev pub Files : Type 0
+Files = ℕ → Option (List ℕ)
+
+-- the sealed files among these slots
+abbrev pub files_in : (ℕ → Slot) → Files
+files_in slots number = (slots number).sealed
+
 -- neither a sealed file nor a mark
 abbrev pub nothing : Slot
 nothing = record { sealed = None; mark = None }

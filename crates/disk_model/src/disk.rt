@@ -1,6 +1,7 @@
 //! The logs of a database: what a read gives, and what a crash may leave.
 
-ghost use Rattle.std.specs.Prelude.{◌≡◌, ◌<◌, ◌≤◌, ◌+◌, ◌^◌, ℕ, length, take, Option, Result, IfOk, OnOk, OnErr, MatchResult, IfSome};
+ghost use Rattle.std.specs.Prelude.{◌≡◌, ◌<◌, ◌≤◌, ◌+◌, ◌^◌, ℕ, length, take, Option, Result, IfOk, OnOk, OnErr};
+ghost use Rattle.std.specs.Prelude.{MatchResult, IfSome};
 ghost use Rattle.disk_model.specs.Causes.{HasCause};
 ghost use Rattle.disk_model.specs.Changes.{Any, OnlyAt, Becomes};
 ghost use Rattle.disk_model.specs.Logs.{Image, Writes, Cuts, Torn, MayCut, Follows, HasLogOf, Settled, ReadsAt};

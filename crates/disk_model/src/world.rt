@@ -1,6 +1,7 @@
 //! The world, which hands out stores, clients and ports, and takes stores and clients back.
 
-ghost use Rattle.std.specs.Prelude.{◌≡◌, ◌≢◌, ◌<◌, ◌++◌, ◌∷◌, [], List, ℕ, length, take, slice_get, MatchResult, MatchOption, IfOk, OnOk, OnErr, IfSome, Option, Some, None, Ok, ◌⊎◌};
+ghost use Rattle.std.specs.Prelude.{◌≡◌, ◌≢◌, ◌<◌, ◌++◌, ◌∷◌, [], List, ℕ, length, take, slice_get, MatchResult};
+ghost use Rattle.std.specs.Prelude.{MatchOption, IfOk, OnOk, OnErr, IfSome, Option, Some, None, Ok, ◌⊎◌};
 ghost use Rattle.disk_model.specs.Causes.{HasCause};
 ghost use Rattle.disk_model.specs.Streams.{Adds};
 ghost use Rattle.disk_model.specs.Worlds.{Handed, HandsOut, Returns, directory_due, IsBlank};

@@ -1,6 +1,7 @@
 //! Sealed files, the builds that make them, and the yard that holds them by number.
 
-ghost use Rattle.std.specs.Prelude.{◌≡◌, ◌≤◌, ℕ, List, [], length, take, Option, Some, None, Result, IfOk, OnOk, OnErr, MatchResult, IsNone, ◌↔◌, IfSome};
+ghost use Rattle.std.specs.Prelude.{◌≡◌, ◌≤◌, ℕ, List, [], length, take, Option, Some, None, Result, IfOk, OnOk};
+ghost use Rattle.std.specs.Prelude.{OnErr, MatchResult, IsNone, ◌↔◌, IfSome};
 ghost use Rattle.disk_model.specs.Causes.{HasCause};
 ghost use Rattle.disk_model.specs.Streams.{Adds};
 ghost use Rattle.disk_model.specs.Changes.{OnlyAt, Becomes};

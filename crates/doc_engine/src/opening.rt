@@ -25,7 +25,8 @@ impl<D: Disk, Y: Yard> Engine<D, Y> {
     ///
     /// It refuses no directory for its timestamps: where none is left it refuses each commit, and where the merge
     /// timestamp is past the front it refuses each read there. It takes time n log n in the bytes of the logs, and
-    /// memory for the entries and the live documents; it takes that of the live documents last, when the logs are ready.
+    /// memory for the entries and the live documents; it takes that of the live documents last, when the logs are
+    /// ready.
     pub fn open(alloc: Global, mut disk: D, yard: Y) -> Result<Engine<D, Y>, OpenRefused<D, Y>>
         ensures answers { AnswersOpen disk result }
         ensures images { OpenKeepsShown disk result }

@@ -25,10 +25,10 @@ impl Filter {
 
     /// Whether a document satisfies the query.
     ///
-    /// The children of and, or and and-not are asked in their order up to the one that decides. The first text is sought
-    /// in the tree itself, up to where it occurs. For each further text, and for near, the words of the document are
-    /// found, once as they are written and once case folded, each form only if a text asks for it. Values and ranges go
-    /// once through the tree, whatever their number.
+    /// The children of and, or and and-not are asked in their order up to the one that decides. The first text is
+    /// sought in the tree itself, up to where it occurs. For each further text, and for near, the words of the
+    /// document are found, once as they are written and once case folded, each form only if a text asks for it.
+    /// Values and ranges go once through the tree, whatever their number.
     pub fn matches(&self, alloc: Global, document: &Document) -> Result<bool, AllocError>
         ensures { IfOk result (λ b. b ≡ lets_through self.now document.now) }
     {

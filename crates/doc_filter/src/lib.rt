@@ -1,6 +1,6 @@
-//! Whether a document satisfies a query. A filter holds the query with its texts cut into words and folded, and is asked
-//! of many documents. The words of a document are found at most once in each of two forms, as they are written and case
-//! folded, and only where the query seeks more than one text.
+//! Whether a document satisfies a query. A filter holds the query with its texts cut into words and folded, and is
+//! asked of many documents. The words of a document are found at most once in each of two forms, as they are written
+//! and case folded, and only where the query seeks more than one text.
 #![tactic(auto)]
 
 mod bound;

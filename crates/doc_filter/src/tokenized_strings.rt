@@ -91,7 +91,8 @@ fn add_members(
 ) -> Result<u64, AllocError>
     requires { first_position + word_count (texts_of_members members.now) < 2 ^ 64 }
     ensures next { IfOk result (λ n. n ≡ first_position + word_count (texts_of_members members.now)) }
-    ensures added { OnOk result (out.new ≡ out.old ++ tokenized_from any_case first_position (texts_of_members members.now)) }
+    ensures added { OnOk result
+        (out.new ≡ out.old ++ tokenized_from any_case first_position (texts_of_members members.now)) }
 {
     let mut next = first_position;
     for member in members.as_slice() {

@@ -27,8 +27,8 @@ pub use document::Document;
 pub use entry::Entry;
 pub use indexes::{Indexes, Kind};
 pub use limits::{
-    MAX_COLLECTIONS, MAX_DOCUMENT_DEPTH, MAX_INDEXES, MAX_OPERATIONS, MAX_QUERY_DEPTH,
-    MAX_QUERY_ITEMS, MAX_SIZE,
+    MAX_COLLECTIONS, MAX_DOCUMENT_DEPTH, MAX_INDEXES, MAX_NAME_BYTES, MAX_OPERATIONS,
+    MAX_QUERY_DEPTH, MAX_QUERY_ITEMS, MAX_SIZE,
 };
 pub use node::{Members, Node, Nodes};
 pub use op::Op;

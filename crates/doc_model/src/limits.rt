@@ -4,6 +4,9 @@ pub const MAX_DOCUMENT_DEPTH: u32 = 128;
 /// Nodes and bytes of a document, and of all that a commit puts: an entry is read and written in one piece.
 pub const MAX_SIZE: u64 = 16_777_216;
 
+/// Bytes of a URI and of the name of a collection: memory and each entry that names it keep it whole.
+pub const MAX_NAME_BYTES: usize = 1024;
+
 /// Collections of a document: a query looks through them for each of its own names.
 pub const MAX_COLLECTIONS: usize = 64;
 

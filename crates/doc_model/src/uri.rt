@@ -3,12 +3,12 @@ ghost use Rattle.doc_model.specs.Uri.{is_name, is_uri, is_uri_byte, is_rising, i
 ghost use Rattle.std.specs.List.{list_all};
 
 use crate::Text;
-use crate::limits::MAX_COLLECTIONS;
+use crate::limits::{MAX_COLLECTIONS, MAX_NAME_BYTES};
 
 fn is_name(text: &str) -> bool
     ensures { result ≡ is_name text.now }
 {
-    1 <= text.len() && text.len() <= 1024
+    1 <= text.len() && text.len() <= MAX_NAME_BYTES
 }
 
 fn is_uri_byte(byte: u8) -> bool

@@ -31,7 +31,8 @@ pub fn folded_words(alloc: Global, text: &str) -> Result<Texts, AllocError>
     Ok(out)
 }
 
-/// The words of a text in the form in which they are compared: case folded where case is alike, else as they are written.
+/// The words of a text in the form in which they are compared: case folded where case is alike, else as they are
+/// written.
 pub fn words_seen(alloc: Global, any_case: bool, text: &str) -> Result<Texts, AllocError>
     ensures { IfOk result (λ ws. ws ≡ words_seen any_case text.now) }
 {

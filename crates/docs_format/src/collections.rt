@@ -4,7 +4,7 @@ ghost use Rattle.docs_format.specs.Reading.{collection_at, collections_at, is_ne
 
 use crate::fault::{DecodeError, FieldError};
 use crate::reader::Reader;
-use doc_model::{Text, Texts};
+use doc_model::{MAX_NAME_BYTES, Text, Texts};
 use std::alloc::Global;
 
 const MAX_COLLECTIONS: u32 = doc_model::MAX_COLLECTIONS as u32;
@@ -45,5 +45,5 @@ fn collection_at<'a>(last: &str, reader: &mut Reader<'a>) -> Result<&'a str, Dec
 fn is_next(last: &str, name: &str) -> bool
     ensures { result ≡ is_next last.now name.now }
 {
-    1 <= name.len() && name.len() <= 1024 && last < name
+    1 <= name.len() && name.len() <= MAX_NAME_BYTES && last < name
 }

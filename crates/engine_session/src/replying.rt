@@ -17,8 +17,8 @@ use searches::search;
 use std::alloc::Global;
 use transcript::{Command, Reply, When};
 
-/// The reply to a command. It asks the engine for commits, for gets and searches at the front, and for stamps, and costs
-/// what they cost.
+/// The reply to a command. It asks the engine for commits, for gets and searches at the front, and for stamps, and
+/// costs what they cost.
 pub(crate) fn reply<D: Disk, Y: Yard>(
     alloc: Global,
     engine: &mut Engine<D, Y>,

@@ -12,16 +12,6 @@ use std::test::Fail;
 
 type MemoryEngine = Engine<MemoryDisk, MemoryYard>;
 
-fn meter(alloc: Global, failing: &[u64], stop: Option<u64>) -> Result<Meter, AllocError> {
-    let failing = failing.to_vec(alloc)?;
-    Meter::new(alloc, Plan { failing, stop })
-}
-
-// One under which no call fails.
-fn smooth(alloc: Global) -> Result<Meter, AllocError> {
-    meter(alloc, &[], None)
-}
-
 // An engine over a directory that was made.
 fn created(alloc: Global, meter: &Meter) -> Result<MemoryEngine, Fail> {
     let disk = MemoryDisk::new(alloc, blank_logs(alloc)?, meter.share()?)?;
@@ -34,7 +24,7 @@ fn created(alloc: Global, meter: &Meter) -> Result<MemoryEngine, Fail> {
 
 // One of which no call fails.
 fn empty(alloc: Global) -> Result<MemoryEngine, Fail> {
-    created(alloc, &smooth(alloc)?)
+    created(alloc, &Meter::new(alloc, Plan::none(alloc))?)
 }
 
 // So many bytes of the first journal's last change.
@@ -48,7 +38,7 @@ fn of_the_first(alloc: Global, landed: u64) -> Result<Vec<Vec<u64>>, AllocError>
 // The disk that a crash leaves, where so many bytes of the first journal's last change have landed.
 fn crashed(alloc: Global, disk: &MemoryDisk, landed: u64) -> Result<MemoryDisk, AllocError> {
     let logs = of_the_first(alloc, landed)?;
-    let meter = smooth(alloc)?;
+    let meter = Meter::new(alloc, Plan::none(alloc))?;
     disk.after_crash(alloc, &logs, meter)
 }
 
@@ -58,7 +48,7 @@ fn reopened(alloc: Global, disk: &MemoryDisk, landed: u64) -> Result<MemoryEngin
 }
 
 fn opened(alloc: Global, disk: MemoryDisk) -> Result<MemoryEngine, Fail> {
-    let yard = MemoryYard::new(alloc, smooth(alloc)?);
+    let yard = MemoryYard::new(alloc, Meter::new(alloc, Plan::none(alloc))?);
     match Engine::open(alloc, disk, yard) {
         Ok(engine) => Ok(engine),
         Err(_) => Err("it isn't opened")?,

@@ -3,8 +3,8 @@
 mod files;
 mod worlds;
 
-use crate::fixtures::{Fail, landed, meter, metered};
-use disk_memory::{MemoryDisk, Meter, blank_logs, blank_store};
+use crate::fixtures::{Fail, landed, metered};
+use disk_memory::{MemoryDisk, Meter, Plan, blank_logs, blank_store};
 use disk_model::{Disk, Failed, Store};
 use std::alloc::{AllocError, Global};
 use std::process::Abort;
@@ -29,7 +29,7 @@ fn crashed(
     disk: &MemoryDisk,
     landed: &[Vec<u64>],
 ) -> Result<MemoryDisk, AllocError> {
-    disk.after_crash(alloc, landed, meter(alloc, &[], None)?)
+    disk.after_crash(alloc, landed, Meter::new(alloc, Plan::none(alloc))?)
 }
 
 // What a crash leaves of log 0.
@@ -105,7 +105,7 @@ fn write_over(disk: &mut MemoryDisk, place: u64, bytes: &[u8; 6]) -> Result<(), 
 fn holding(alloc: Global, bytes: &[u8]) -> Result<MemoryDisk, AllocError> {
     let mut contents = blank_logs(alloc)?;
     contents[0] = bytes.to_vec(alloc)?;
-    MemoryDisk::new(alloc, contents, meter(alloc, &[], None)?)
+    MemoryDisk::new(alloc, contents, Meter::new(alloc, Plan::none(alloc))?)
 }
 
 #[test]
@@ -156,7 +156,7 @@ fn check_left(rt: &impl Abort, alloc: Global, disk: &MemoryDisk) -> Result<(), F
 #[test]
 fn nothing_changes_after_the_stop(rt: HostRuntime) -> Result<(), Fail> {
     let alloc = rt.alloc();
-    let calls = meter(alloc, &[3], Some(6))?;
+    let calls = Meter::new(alloc, Plan::of(alloc, &[3], Some(6))?)?;
     let mut disk = metered(alloc, &calls)?;
     check_fault(&rt, &mut disk, &calls)?;
     check_stop(&rt, &mut disk)?;

@@ -1,6 +1,6 @@
 //! What the tests share: why one gives up, and disks whose calls fail by a plan.
 
-use disk_memory::{MemoryDisk, Meter, Plan, blank_logs};
+use disk_memory::{MemoryDisk, Meter, blank_logs};
 use disk_model::Failed;
 use frame_log::{LogRefusal, ScanRefusal};
 use std::alloc::{AllocError, AllocFailed, Global};
@@ -42,20 +42,6 @@ impl From<ScanRefusal> for Fail {
     fn from(refusal: ScanRefusal) -> Fail {
         Fail::Scan(refusal)
     }
-}
-
-/// A plan by which no call fails.
-pub fn smooth(alloc: Global) -> Plan {
-    Plan {
-        failing: Vec::new(alloc),
-        stop: None,
-    }
-}
-
-/// Counts calls, and fails these and all from the stop on.
-pub fn meter(alloc: Global, failing: &[u64], stop: Option<u64>) -> Result<Meter, AllocError> {
-    let failing = failing.to_vec(alloc)?;
-    Meter::new(alloc, Plan { failing, stop })
 }
 
 /// A blank disk whose calls this meter counts.

@@ -3,15 +3,15 @@
 mod bytes;
 mod faults;
 
-use crate::fixtures::{Fail, landed, meter, metered};
-use disk_memory::MemoryDisk;
+use crate::fixtures::{Fail, landed, metered};
+use disk_memory::{MemoryDisk, Meter, Plan};
 use frame_log::{Frame, LogRefusal, scan};
 use std::alloc::{AllocError, Global};
 use std::process::Abort;
 
 // A blank disk on which these calls fail, and all from the stop on.
 fn blank(alloc: Global, failing: &[u64], stop: Option<u64>) -> Result<MemoryDisk, AllocError> {
-    metered(alloc, &meter(alloc, failing, stop)?)
+    metered(alloc, &Meter::new(alloc, Plan::of(alloc, failing, stop)?)?)
 }
 
 // How many frames are in log 0.
@@ -23,7 +23,7 @@ fn frames(alloc: Global, disk: &mut MemoryDisk) -> Result<usize, Fail> {
 // How many frames a crash leaves where so many bytes of each change since the last sync have landed.
 fn left(alloc: Global, disk: &MemoryDisk, counts: &[u64]) -> Result<usize, Fail> {
     let landed = landed(alloc, counts)?;
-    let mut crashed = disk.after_crash(alloc, &landed, meter(alloc, &[], None)?)?;
+    let mut crashed = disk.after_crash(alloc, &landed, Meter::new(alloc, Plan::none(alloc))?)?;
     frames(alloc, &mut crashed)
 }
 

@@ -76,7 +76,8 @@ fn add_string(
 ) -> Result<u64, AllocError>
     requires { first_position + length (plain text.now.1) < 2 ^ 64 }
     ensures next { IfOk result (λ n. n ≡ first_position + length (plain text.now.1)) }
-    ensures added { let string : StringNode = record { property = text.now.0; text = text.now.1; first_position = first_position } in
+    ensures added { let string : StringNode =
+        record { property = text.now.0; text = text.now.1; first_position = first_position } in
         OnOk result (out.new ≡ out.old ++ string ∷ []) }
 {
     let count = plain_words(alloc, text.1.as_str())?.len() as u64;

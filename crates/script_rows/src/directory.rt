@@ -32,11 +32,10 @@ pub fn copied(alloc: Global, logs: &Logs) -> Result<Logs, AllocError> {
 
 /// A plan by which this call fails, if any, and everything stops after so many, if any.
 pub fn plan(alloc: Global, call: Option<u64>, stop: Option<u64>) -> Result<Plan, AllocError> {
-    let mut failing = Vec::new(alloc);
-    if let Some(call) = call {
-        failing.push(call)?;
+    match call {
+        Some(call) => Plan::of(alloc, &[call], stop),
+        None => Plan::of(alloc, &[], stop),
     }
-    Ok(Plan { failing, stop })
 }
 
 /// A disk that holds these logs. Where they aren't four it is refused as want of memory.
@@ -68,7 +67,7 @@ pub fn left(alloc: Global, disk: &MemoryDisk, landed: u64) -> Result<Logs, Alloc
     for _ in 0..LOG_COUNT {
         changes.push([landed, landed].to_vec(alloc)?)?;
     }
-    let meter = Meter::new(alloc, plan(alloc, None, None)?)?;
+    let meter = Meter::new(alloc, Plan::none(alloc))?;
     let mut image = disk.after_crash(alloc, &changes, meter)?;
     let mut logs = Vec::new(alloc);
     for file in 0..LOG_COUNT {

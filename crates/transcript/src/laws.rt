@@ -1,4 +1,5 @@
-ghost use Rattle.transcript.specs.Laws.{HistoryHasEachOnce, HistoryHasNoOthers, LaterTurnsChangeNothing, LegalTurnsMakeAHistory, OneFormIsHad};
+ghost use Rattle.transcript.specs.Laws.{HistoryHasEachOnce, HistoryHasNoOthers, LaterTurnsChangeNothing};
+ghost use Rattle.transcript.specs.Laws.{LegalTurnsMakeAHistory, OneFormIsHad};
 
 /// A session that agrees with the turns of a run still agrees once others have taken further turns.
 pub fn later_turns_change_nothing()

@@ -2,7 +2,8 @@
 
 ghost use Rattle.std.specs.Prelude.{◌≡◌, ◌++◌, ◌∷◌, codes, IfOk};
 ghost use Rattle.std.specs.List.{list_all};
-ghost use Rattle.cts_meaning.specs.Canonical.{case_options, option_if, options_member, query_object, scalars_node, texts_node};
+ghost use Rattle.cts_meaning.specs.Canonical.{case_options, option_if, options_member, query_object, scalars_node};
+ghost use Rattle.cts_meaning.specs.Canonical.{texts_node};
 ghost use Rattle.cts_meaning.specs.Shapes.{field_shape, fields_of, is_given};
 ghost use Rattle.cts_meaning.specs.declared.form.QueryForm.TheVariants as form;
 ghost use Rattle.cts_text.specs.Saids.{IsSaidAs};

@@ -133,10 +133,7 @@ impl World for MemoryWorld {
         if !self.faults.lets() {
             return Err(Failed);
         }
-        Ok(MemoryPort::new(Plan {
-            failing: Vec::new(self.alloc),
-            stop: None,
-        }))
+        Ok(MemoryPort::new(Plan::none(self.alloc)))
     }
 
     fn print(&mut self, bytes: &[u8]) -> Result<(), Failed> {

@@ -67,7 +67,8 @@ fn missing_in_range(
 }
 
 fn missing_of_name(name: &Text, kinds: Kinds, indexes: &Indexes) -> Option<Kind>
-    ensures { option_map (λ k. (name.now, k)) result ≡ first_missing indexes.now (map (λ k. (name.now, k)) (listed kinds)) }
+    ensures { option_map (λ k. (name.now, k)) result
+        ≡ first_missing indexes.now (map (λ k. (name.now, k)) (listed kinds)) }
 {
     match kinds {
         Kinds::Neither => None,

@@ -1,7 +1,7 @@
 //! A fault at the last device call of a put.
 
-use super::{MemoryEngine, commit, empty, meter, opened, reopened, smooth};
-use disk_memory::{MemoryDisk, Meter};
+use super::{MemoryEngine, commit, empty, opened, reopened};
+use disk_memory::{MemoryDisk, Meter, Plan};
 use doc_engine::{CommitRefusal, Pending};
 use std::alloc::Global;
 use std::process::Abort;
@@ -17,7 +17,7 @@ fn over(alloc: Global, disk: &MemoryDisk, meter: &Meter) -> Result<MemoryEngine,
 
 // How many device calls it takes to open this directory.
 fn opening(alloc: Global, disk: &MemoryDisk) -> Result<u64, Fail> {
-    let meter = smooth(alloc)?;
+    let meter = Meter::new(alloc, Plan::none(alloc))?;
     let _ = over(alloc, disk, &meter)?;
     Ok(meter.made())
 }
@@ -33,7 +33,7 @@ struct Failing {
 fn with_failing_put(alloc: Global) -> Result<Failing, Fail> {
     let disk = empty(alloc)?.close().disk;
     let opening = opening(alloc, &disk)?;
-    let meter = meter(alloc, &[opening.saturating_add(3)], None)?;
+    let meter = Meter::new(alloc, Plan::of(alloc, &[opening.saturating_add(3)], None)?)?;
     Ok(Failing {
         engine: over(alloc, &disk, &meter)?,
         meter,

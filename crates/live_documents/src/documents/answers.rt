@@ -7,8 +7,8 @@ use doc_model::{Query, Texts};
 use std::alloc::{AllocError, Global};
 
 impl LiveDocuments {
-    /// The URIs of the documents that satisfy a query, in the order of their bytes. It makes one filter of the query and
-    /// asks it of each document.
+    /// The URIs of the documents that satisfy a query, in the order of their bytes. It makes one filter of the query
+    /// and asks it of each document.
     pub fn answer(&self, alloc: Global, query: &Query) -> Result<Texts, AllocError>
         ensures { IfOk result (λ uris. uris ≡ answer_in self.now query.now) }
     {

@@ -1,7 +1,9 @@
 //! Sealed files, sources and sinks.
 
-use crate::fixtures::{Fail, smooth};
-use disk_memory::{MemoryFile, MemoryPort, MemorySink, MemorySource, MemoryYard, blank_store};
+use crate::fixtures::Fail;
+use disk_memory::{
+    MemoryFile, MemoryPort, MemorySink, MemorySource, MemoryYard, Plan, blank_store,
+};
 use disk_model::{Build, Failed, Port, Sink, Source, Store, Yard};
 use std::alloc::Global;
 
@@ -22,7 +24,7 @@ fn removed(alloc: Global) -> Result<(MemoryFile, bool), Fail> {
 
 // Four bytes of the file from the place 3 on, and how many bytes were read.
 fn middle(alloc: Global, file: &MemoryFile) -> Result<([u8; 4], u64), Failed> {
-    let mut port = MemoryPort::new(smooth(alloc));
+    let mut port = MemoryPort::new(Plan::none(alloc));
     let mut out = [0u8; 4];
     if file.bytes.len() == 10 {
         port.read(file, 3, &mut out)?;
@@ -42,7 +44,7 @@ fn a_removed_file_stays_readable(rt: HostRuntime) -> Result<(), Fail> {
 
 // How many bytes each of three reads gives of three bytes, of which two are given at a time.
 fn three_reads(alloc: Global) -> Result<(usize, usize, usize), Fail> {
-    let mut source = MemorySource::new([1, 2, 3].to_vec(alloc)?, 2, smooth(alloc));
+    let mut source = MemorySource::new([1, 2, 3].to_vec(alloc)?, 2, Plan::none(alloc));
     let mut out = [0u8; 8];
     let first = source.read(&mut out)?;
     let second = source.read(&mut out)?;
@@ -54,7 +56,7 @@ fn three_reads(alloc: Global) -> Result<(usize, usize, usize), Fail> {
 fn streams_give_and_keep_their_bytes(rt: HostRuntime) -> Result<(), Fail> {
     let alloc = rt.alloc();
     assert_eq!(rt; three_reads(alloc)?, (2, 1, 0));
-    let mut sink = MemorySink::new(alloc, smooth(alloc));
+    let mut sink = MemorySink::new(alloc, Plan::none(alloc));
     sink.write(b"abc")?;
     assert_eq!(rt; sink.bytes(), b"abc".as_slice());
     Ok(())

@@ -1,8 +1,8 @@
 //! What a world hands out and takes back.
 
 use super::{append, content};
-use crate::fixtures::{Fail, smooth};
-use disk_memory::{MemoryClient, MemoryPort, MemorySink, MemorySource, MemoryWorld};
+use crate::fixtures::Fail;
+use disk_memory::{MemoryClient, MemoryPort, MemorySink, MemorySource, MemoryWorld, Plan};
 use disk_model::{Client, Sink, Store, World};
 use std::alloc::{AllocError, Global};
 use std::collections::VecDeque;
@@ -10,9 +10,9 @@ use std::collections::VecDeque;
 fn client(alloc: Global) -> Result<MemoryClient, AllocError> {
     let bytes = b"ab".to_vec(alloc)?;
     Ok(Client {
-        source: MemorySource::new(bytes, 2, smooth(alloc)),
-        sink: MemorySink::new(alloc, smooth(alloc)),
-        port: MemoryPort::new(smooth(alloc)),
+        source: MemorySource::new(bytes, 2, Plan::none(alloc)),
+        sink: MemorySink::new(alloc, Plan::none(alloc)),
+        port: MemoryPort::new(Plan::none(alloc)),
     })
 }
 
@@ -27,7 +27,7 @@ fn one_client(alloc: Global) -> Result<VecDeque<MemoryClient>, Fail> {
 
 // A world to whose directory `a` a store was put back that was written to.
 fn with_store(alloc: Global) -> Result<MemoryWorld, Fail> {
-    let mut world = MemoryWorld::new(alloc, VecDeque::new(alloc), smooth(alloc));
+    let mut world = MemoryWorld::new(alloc, VecDeque::new(alloc), Plan::none(alloc));
     let Store { mut disk, yard } = world.take_store("a")?;
     append(&mut disk, b"abc")?;
     world.put_store(Store { disk, yard })?;
@@ -55,7 +55,7 @@ fn a_store_is_there_once_it_is_put_back(rt: HostRuntime) -> Result<(), Fail> {
 
 // A world whose one client was put back with a reply.
 fn with_reply(alloc: Global) -> Result<MemoryWorld, Fail> {
-    let mut world = MemoryWorld::new(alloc, one_client(alloc)?, smooth(alloc));
+    let mut world = MemoryWorld::new(alloc, one_client(alloc)?, Plan::none(alloc));
     let mut client = world.client(None)?;
     client.sink.write(b"hello")?;
     world.put_client(client)?;

@@ -3,8 +3,8 @@
 ghost use Rattle.std.specs.Prelude.{◌<◌, length};
 
 use super::{blank, left};
-use crate::fixtures::{Fail, meter, metered};
-use disk_memory::{MemoryDisk, Meter};
+use crate::fixtures::{Fail, metered};
+use disk_memory::{MemoryDisk, Meter, Plan};
 use disk_model::Disk;
 use frame_log::{Frame, Log, ScanRefusal, scan};
 use std::alloc::Global;
@@ -25,7 +25,7 @@ fn holding(alloc: Global, calls: &Meter, bytes: &[u8]) -> Result<MemoryDisk, Fai
 fn blanked(alloc: Global, bytes: &[u8]) -> Result<(u64, u64, usize), Fail>
     requires { length bytes.now < 100 }
 {
-    let calls = meter(alloc, &[], None)?;
+    let calls = Meter::new(alloc, Plan::none(alloc))?;
     let mut disk = holding(alloc, &calls, bytes)?;
     let _ = Log::blank(&mut disk, 0)?;
     Ok((calls.made(), disk.len(0)?, left(alloc, &disk, &[])?))
@@ -91,7 +91,7 @@ fn the_bytes_of_a_log(rt: HostRuntime) -> Result<(), Fail> {
 fn found(alloc: Global, bytes: &[u8]) -> Result<Result<usize, u64>, Fail>
     requires { length bytes.now < 100 }
 {
-    let calls = meter(alloc, &[], None)?;
+    let calls = Meter::new(alloc, Plan::none(alloc))?;
     let mut disk = holding(alloc, &calls, bytes)?;
     match scan(alloc, &mut disk, 0) {
         Ok((_, bodies)) => Ok(Ok(bodies.len())),

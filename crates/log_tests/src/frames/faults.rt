@@ -3,8 +3,8 @@
 ghost use Rattle.frame_log.specs.LogStates.{IsWithin};
 
 use super::{blank, left};
-use crate::fixtures::{Fail, meter, metered};
-use disk_memory::{MemoryDisk, Meter};
+use crate::fixtures::{Fail, metered};
+use disk_memory::{MemoryDisk, Meter, Plan};
 use disk_model::Disk;
 use frame_log::{Frame, Log, LogRefusal, scan};
 use std::alloc::Global;
@@ -56,7 +56,7 @@ fn check_fault(
     frame: &Frame,
     (failing, wanted): (u64, Revival),
 ) -> Result<(), Fail> {
-    let calls = meter(alloc, &[failing], None)?;
+    let calls = Meter::new(alloc, Plan::of(alloc, &[failing], None)?)?;
     let mut disk = metered(alloc, &calls)?;
     let revival = added_at_last(rt, alloc, &mut disk, &calls, frame)?;
     assert_eq!(rt; (revival, left(alloc, &disk, &[14])?), (wanted, 1));

@@ -13,21 +13,13 @@ use std::collections::VecDeque;
 use std::str;
 use std::test::Fail;
 
-// A plan by which no call fails.
-fn smooth(alloc: Global) -> Plan {
-    Plan {
-        failing: Vec::new(alloc),
-        stop: None,
-    }
-}
-
 // A client that reads this.
 fn client(alloc: Global, input: &str) -> Result<MemoryClient, Fail> {
     let bytes = input.as_bytes().to_vec(alloc)?;
     Ok(Client {
-        source: MemorySource::new(bytes, 4096, smooth(alloc)),
-        sink: MemorySink::new(alloc, smooth(alloc)),
-        port: MemoryPort::new(smooth(alloc)),
+        source: MemorySource::new(bytes, 4096, Plan::none(alloc)),
+        sink: MemorySink::new(alloc, Plan::none(alloc)),
+        port: MemoryPort::new(Plan::none(alloc)),
     })
 }
 
@@ -46,7 +38,7 @@ pub(super) fn world(alloc: Global, inputs: &[&str]) -> Result<MemoryWorld, Fail>
         IsIdle ⟦<MemoryDisk as Disk>⟧ ⟦<MemoryYard as Yard>⟧ ⟦<MemoryWorld as World>⟧ world) }
 {
     let waiting = clients(alloc, inputs)?;
-    Ok(MemoryWorld::new(alloc, waiting, smooth(alloc)))
+    Ok(MemoryWorld::new(alloc, waiting, Plan::none(alloc)))
 }
 
 // These words, each with its own memory.

@@ -8,5 +8,5 @@ returns c =
       logs = λ file lt. c.in_ok-new.ensures.reads file ∙ c.in_ok-contents.ensures.blank file
           (omega (arith, lt, contents.ok.0, c.in_ok-contents.ensures.len));
       settled = λ file lt image may. c.in_ok-new.ensures.sure image may file ∙ sym (c.in_ok-new.ensures.reads file);
-      files = c.new-4.ensures.holds;
+      files = c.new-3.ensures.holds;
     }
