@@ -6,14 +6,14 @@ use Rattle.std.proofs.lemmas.Nat.{from_be_bytes-to_be_bytes_8}
 use Rattle.frame_log.specs.Frames.{sized, open_frame, framed, HasFrames, BeginsWhole, IsDamaged}
 use Rattle.frame_log.specs.declared.frame.TheConstants.{OPEN}
 
-head_same : (a b : ℕ) (x y : List ℕ) → a ∷ x ≡ b ∷ y → a ≡ b
+pub head_same : (a b : ℕ) (x y : List ℕ) → a ∷ x ≡ b ∷ y → a ≡ b
 head_same a b x y is = cc
 
-tail_same : (a b : ℕ) (x y : List ℕ) → a ∷ x ≡ b ∷ y → x ≡ y
+pub tail_same : (a b : ℕ) (x y : List ℕ) → a ∷ x ≡ b ∷ y → x ≡ y
 tail_same a b x y is = cc
 
 -- the first frame and the rest
-peel : (c d x y : List ℕ) → length c < 2 ^ 64 → length d < 2 ^ 64 → sized c ++ x ≡ sized d ++ y → (c ≡ d) × (x ≡ y)
+pub peel : (c d x y : List ℕ) → length c < 2 ^ 64 → length d < 2 ^ 64 → sized c ++ x ≡ sized d ++ y → (c ≡ d) × (x ≡ y)
 peel c d x y short low is =
     let left : sized c ++ x ≡ to_be_bytes w64 (length c) ++ (c ++ x) = append_assoc (to_be_bytes w64 (length c)) c x in
     let right : sized d ++ y ≡ to_be_bytes w64 (length d) ++ (d ++ y) = append_assoc (to_be_bytes w64 (length d)) d y in
@@ -32,10 +32,10 @@ peel c d x y short low is =
     )
 
 -- the frames behind the first
-framed_rest : (c : List ℕ) (a : List (List ℕ)) (x : List ℕ) → framed (c ∷ a) ++ x ≡ OPEN ∷ (sized c ++ (framed a ++ x))
+pub framed_rest : (c : List ℕ) (a : List (List ℕ)) (x : List ℕ) → framed (c ∷ a) ++ x ≡ OPEN ∷ (sized c ++ (framed a ++ x))
 framed_rest c a x = append_assoc (open_frame c) (framed a) x
 
-length_framed : (c : List ℕ) (a : List (List ℕ)) → length (framed (c ∷ a)) ≡ 9 + length c + length (framed a)
+pub length_framed : (c : List ℕ) (a : List (List ℕ)) → length (framed (c ∷ a)) ≡ 9 + length c + length (framed a)
 length_framed c a = omega (arith, length-append (open_frame c) (framed a), length-append (to_be_bytes w64 (length c)) c)
 
 size_in : (c : List ℕ) (a : List (List ℕ)) (x bytes : List ℕ) → bytes ≡ OPEN ∷ (sized c ++ (framed a ++ x)) → length

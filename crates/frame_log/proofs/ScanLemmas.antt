@@ -1,83 +1,70 @@
--- How far a scan has come.
-use Rattle.std.proofs.Common.{◌≡◌, ◌≤◌, ◌<◌, ◌^◌, ◌+◌, ◌∙◌, refl, sym, ap, inr, ℕ, List, [], ◌∷◌, ◌++◌, length, drop, Option, Some, None, IsSome, IfSome, Result, Ok, Err, Vec, arith}
-use Rattle.std.specs.Prelude.{IsErrAnd}
-use Rattle.std.specs.declared.alloc.Global.{Global}
-use Rattle.std.proofs.lemmas.List.{drop-drop, drop_at}
+-- How far a reader of frames has come, and what a scan makes of that.
+use Rattle.std.proofs.Common.{◌≡◌, ◌≤◌, ◌<◌, ◌∙◌, refl, sym, ap, ℕ, List, [], ◌∷◌, ◌++◌, length, drop, Option, Some, None, IsSome, IfSome, Ok, arith}
+use Rattle.std.proofs.lemmas.List.{drop_at}
 use Rattle.disk_model.specs.Logs.{Image, CrashImages, Settled}
-use Rattle.frame_log.specs.Frames.{framed, open_frame, HasFrames}
 use Rattle.disk_model.specs.Stretches.{OnlyRead}
 use Rattle.disk_model.specs.declared.disk.Disk
-use Rattle.frame_log.specs.Scanned.{EndsAt, BeginsWith, NotNext, NotScanned, Scans}
-use Rattle.frame_log.specs.declared.log.Log.{Log}
-use Rattle.frame_log.specs.declared.refusal.ScanRefusal.{ScanRefusal}
-use Rattle.frame_log.specs.declared.refusal.ScanRefusal.TheVariants.{Fault, Damaged, Memory}
-use Rattle.frame_log.proofs.Bytes.{framed-push, length-sized}
+use Rattle.frame_log.specs.Frames.{framed, open_frame, HasFrames}
+use Rattle.frame_log.specs.FramesRead.{log_file, log_length, next_gate, HasRead, MovesPast, ReadsOn}
+use Rattle.frame_log.specs.Scanned.{BeginsWith}
+use Rattle.frame_log.specs.declared.frame_reader.FrameReader.{FrameReader}
+use Rattle.frame_log.proofs.Bytes.{framed-push, length-framed-push}
+use Rattle.frame_log.proofs.ReadLemmas.{if_some_both}
 
--- these frames were read, and the next gate is here
-pub record IsSeen (bodies : List (List ℕ)) (end len : ℕ) (bytes : List ℕ) : Type 0 where
-  pub all : len ≡ length bytes
-  pub front : bytes ≡ framed bodies ++ drop end bytes
-
-pub record IsScanned {D : Type 0} (of_disk : Disk.Ghosts D) (first now : D) (file len end : ℕ)
+-- the reader of a scan
+pub record IsScanned {D : Type 0} (of_disk : Disk.Ghosts D) (first now : D) (file : ℕ) (reader : FrameReader)
     (bodies : List (List ℕ)) : Type 0 where
   pub read : OnlyRead of_disk first now
   pub later : of_disk.faults first ≤ of_disk.faults now
-  pub inside : end < len
-  pub short : len ≤ 2 ^ 62
-  pub at_end : end ≡ length (framed bodies)
-  pub told : IfSome (of_disk.seen first) (λ image. IsSeen bodies end len (image file))
+  pub same_file : log_file reader ≡ file
+  pub at_end : next_gate reader ≡ length (framed bodies)
+  pub told : IfSome (of_disk.seen first) (λ image. HasRead reader bodies (image file))
 
-pub seen_first : (bytes : List ℕ) (len : ℕ) → len ≡ length bytes → IsSeen [] 0 len bytes
-seen_first bytes len all = record { all = all; front = refl }
+-- a closed gate is behind the frames that a scan read
+pub scanned_whole : {D : Type 0} (of_disk : Disk.Ghosts D) (first now : D) (file : ℕ) (reader new : FrameReader)
+    (bodies : List (List ℕ)) → IsScanned of_disk first now file reader bodies
+    → IfSome (of_disk.seen now) (λ image. ReadsOn reader new (image (log_file reader)) (Ok None))
+    → IfSome (of_disk.seen first) (λ image. HasFrames bodies (image file))
+scanned_whole of_disk first now file reader new bodies far found =
+    let ends : IfSome (of_disk.seen first) (λ image. ReadsOn reader new (image file) (Ok None)) =
+    rw (← far.read.same, ← far.same_file) found in
+    if_some_both (of_disk.seen first) far.told ends (λ image read on. on bodies read)
 
-pub seen_more : (bodies : List (List ℕ)) (end next len : ℕ) (bytes body : List ℕ) → end ≡ length (framed bodies) →
-    next ≡ end + 9 + length body → IsSeen bodies end len bytes
-    → BeginsWith body (drop end bytes) → IsSeen (bodies ++ body ∷ []) next len bytes
-seen_more bodies end next len bytes body at_end is seen begins =
-    let long : length (open_frame body) ≡ 9 + length body = omega (arith, length-sized body) in
-    let rest : drop next bytes ≡ begins.behind =
-    ap (λ (k : ℕ). drop k bytes) (omega (arith, is, long))
-    ∙ sym (drop-drop (length (open_frame body)) end bytes)
-    ∙ ap (λ (l : List ℕ). drop (length (open_frame body)) l) begins.whole
-    ∙ drop_at (open_frame body) begins.behind (length (open_frame body)) refl in
-    record {
-      all = seen.all;
-      front = seen.front ∙ ap (λ (l : List ℕ). framed bodies ++ l) begins.whole ∙ sym
-          (framed-push bodies body begins.behind) ∙ ap (λ (l : List ℕ). framed (bodies ++ body ∷ []) ++ l) (sym rest);
-    }
-
-pub seen_whole : (bodies : List (List ℕ)) (end len : ℕ) (bytes : List ℕ) → len ≤ 2 ^ 62 → IsSeen bodies end len bytes
-    → EndsAt (drop end bytes) → HasFrames bodies bytes
-seen_whole bodies end len bytes short seen ends = record {
-  gate = ends.gate;
-  behind = ends.behind;
-  whole = seen.front ∙ ap (λ (l : List ℕ). framed bodies ++ l) ends.whole;
-  closed = ends.closed;
-  short = omega (arith, seen.all, short);
+-- nothing was read of bytes of which there is one
+pub read_first : (reader : FrameReader) (bytes : List ℕ) → next_gate reader ≡ 0 → log_length reader ≡ length bytes
+    → 0 < log_length reader → HasRead reader [] bytes
+read_first reader [] start all some = absurd (omega (arith, all, some))
+read_first reader (byte ∷ bytes) start all some = record {
+  gate = byte;
+  behind = bytes;
+  whole = refl;
+  place = start;
+  all = all;
 }
 
--- why a gate wasn't read is why the log wasn't
-pub not_scanned : (bodies : List (List ℕ)) (end len : ℕ) (bytes : List ℕ) (refusal : ScanRefusal) → end ≡ length
-    (framed bodies) → end < len → len ≤ 2 ^ 62
-    → IsSeen bodies end len bytes → NotNext end (drop end bytes) refusal → NotScanned bytes refusal
-not_scanned bodies end len bytes Fault at_end inside short seen why = tt
-not_scanned bodies end len bytes (Damaged place) at_end inside short seen (at, breaks) = inr (inr (record {
-  bodies = bodies;
-  behind = breaks.behind;
-  whole = seen.front ∙ ap (λ (l : List ℕ). framed bodies ++ l) breaks.whole;
-  place = at ∙ at_end;
-  broken = breaks.broken;
-  early = omega (arith, at, inside, short);
-}))
-not_scanned bodies end len bytes Memory at_end inside short seen why = tt
+-- bytes whose frames were read up to a gate
+module _ (reader : FrameReader) (bodies : List (List ℕ)) (bytes : List ℕ) (read : HasRead reader bodies bytes) where
+  rest : drop (next_gate reader) bytes ≡ read.gate ∷ read.behind
+  rest = ap (λ (l : List ℕ). drop (next_gate reader) l) read.whole
+      ∙ drop_at (framed bodies) (read.gate ∷ read.behind) (next_gate reader) (sym read.place)
 
--- a refusal of a scan
-pub scans_err : {Q : ScanRefusal → Type 0} (seen : Option Image) (file : ℕ)
-    (result : Result (Log × Vec (Vec ℕ Global) Global) ScanRefusal)
-    → IsErrAnd result Q → ((e : ScanRefusal) → Q e → IfSome seen (λ image. NotScanned (image file) e)) → IfSome seen
-    (λ image. Scans (image file) result)
-scans_err seen file (Ok found) is then = absurd is
-scans_err seen file (Err e) is then = then e is
+  front : bytes ≡ framed bodies ++ drop (next_gate reader) bytes
+  front = read.whole ∙ ap (λ (l : List ℕ). framed bodies ++ l) (sym rest)
+
+  more : (new : FrameReader) (body behind : List ℕ) → drop (next_gate reader) bytes ≡ open_frame body ++ behind
+      → 0 < length behind → MovesPast body reader new → HasRead new (bodies ++ body ∷ []) bytes
+  more new body [] whole gated moves = absurd (omega (arith, gated))
+  more new body (gate ∷ behind) whole gated moves = record {
+    gate = gate;
+    behind = behind;
+    whole = front ∙ ap (λ (l : List ℕ). framed bodies ++ l) whole ∙ sym (framed-push bodies body (gate ∷ behind));
+    place = omega (arith, moves.gate, read.place, length-framed-push bodies body);
+    all = moves.same_length ∙ read.all;
+  }
+
+  pub read_more : (new : FrameReader) (body : List ℕ) → BeginsWith body (drop (next_gate reader) bytes)
+      → MovesPast body reader new → HasRead new (bodies ++ body ∷ []) bytes
+  read_more new body begins moves = more new body begins.behind begins.whole begins.gated moves
 
 -- where each image has what is read, each has the frames
 pub settled_frames : (seen : Option Image) (may_leave : CrashImages) (file : ℕ) (bodies : List (List ℕ)) → IsSome seen →

@@ -1,7 +1,7 @@
 use Rattle.std.proofs.Common.{◌∙◌, refl, sym, drop, length-drop, arith}
 use Rattle.frame_log.proofs.ReadLemmas.{if_some_both, if_some_three}
 use Rattle.frame_log.proofs.FrameLemmas.{further, breaks_short, breaks_long}
-use Rattle.frame_log.proofs.scanning.size_at.Goals as goal
+use Rattle.frame_log.proofs.next_frame.size_at.Goals as goal
 
 pub returns-then-len-gate-lt10-clause-refused : goal.returns-then-len-gate-lt10-clause-refused
 returns-then-len-gate-lt10-clause-refused g c =

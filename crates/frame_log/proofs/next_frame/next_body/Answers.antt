@@ -3,7 +3,7 @@ use Rattle.std.proofs.lemmas.List.{take_at}
 use Rattle.frame_log.specs.Scanned.{HasSize}
 use Rattle.frame_log.proofs.ReadLemmas.{if_some_three, only_read_more}
 use Rattle.frame_log.proofs.FrameLemmas.{further, begins_with}
-use Rattle.frame_log.proofs.scanning.next.Goals as goal
+use Rattle.frame_log.proofs.next_frame.next_body.Goals as goal
 
 pub returns-in_err-size-clause-read : goal.returns-in_err-size-clause-read
 returns-in_err-size-clause-read g c =
