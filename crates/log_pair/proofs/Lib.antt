@@ -1,0 +1,4 @@
+pub mod Two
+pub mod OneOfTwo
+pub mod Leading
+pub mod Reviving

@@ -1,0 +1,5 @@
+pub mod Bodies
+pub mod PairStates
+pub mod Sparing
+pub mod Calls
+pub mod Laws
