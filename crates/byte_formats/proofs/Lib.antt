@@ -1,0 +1,17 @@
+pub mod Digits
+pub mod Steps
+pub mod Pieces
+pub mod Pairs
+pub mod Basic
+pub mod Lists
+pub mod Fence
+pub mod Numbers
+pub mod Wholes
+pub mod Bodies
+pub mod Writing
+pub mod Texts
+pub mod Loops
+pub mod Places
+pub mod Enclosed
+pub mod Puts
+pub mod Decoding
