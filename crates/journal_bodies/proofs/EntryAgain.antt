@@ -21,12 +21,12 @@ use Rattle.docs_format.proofs.Fields.{count_again, uri_again}
 use Rattle.docs_format.proofs.Keeping.{kept}
 use Rattle.docs_format.proofs.Lists.{Follows, list_again}
 use Rattle.journal_bodies.specs.Entries.{HasValues, IsEntry, SpellsEntry, entry, expect, is_expect, op}
-use Rattle.journal_bodies.specs.EntryReading.{entry_at, expect_at, fresh_at, op_at, ops_at, put_at, said_at}
+use Rattle.journal_bodies.specs.EntryReading.{entry_at, expect_at, fresh_at, is_expected, op_at, ops_at, put_at, said_at}
 use Rattle.journal_bodies.specs.Roots.{listed, long}
 use Rattle.journal_bodies.proofs.OpLists.{AreRead, MayFollow, first_follows, is_commit}
 use Rattle.journal_bodies.proofs.OpsKept.{ops_are}
 use Rattle.journal_bodies.proofs.Puts.{small}
-use Rattle.journal_bodies.proofs.RootAgain.{kept_again, long_again}
+use Rattle.journal_bodies.proofs.RootAgain.{kept_again}
 use Rattle.journal_bodies.proofs.Truths.{from_true, is_true}
 
 expect_again : (e : Option ℕ) (rest : List ℕ) → is_expect e ≡ true → expect_at (expect e ++ rest) ≡ Ok (e, rest)
@@ -118,26 +118,29 @@ ops_again number ops rest rules values =
     (count_again (length ops) more (omega (arith, commit.few))) commit.some commit.few
     ∙ list_again op_at op MayFollow op_again ops [] rest (ops_follow ops [] (are_read number ops rules values))
 
-pub entry_again : (number : ℕ) (e : Entry) (rest : List ℕ) → number < 2 ^ 64 → IsEntry number e → HasValues e
-    → entry_at (entry number e ++ rest) ≡ Ok ((number, e), rest)
+pub entry_again : (expected : Option ℕ) (number : ℕ) (e : Entry) (rest : List ℕ) → number < 2 ^ 64 → IsEntry number e
+    → HasValues e → is_expected expected number ≡ true
+    → entry_at expected (entry number e ++ rest) ≡ Ok ((number, e), rest)
 unfolding entry_at said_at kind_at
-entry_again number (Commit ops) rest fits rules values =
+entry_again expected number (Commit ops) rest fits rules values is =
     let more : List ℕ = listed op ops ++ rest in
     let regrouped : entry number (Commit ops) ++ rest ≡ 1 ∷ (long number ++ more) =
     ap (λ (s : List ℕ). 1 ∷ s) (append_assoc (long number) (listed op ops) rest) in
-    ap entry_at regrouped ∙ rw (long_again number more fits, ops_again number ops rest rules values) refl
-entry_again number (Forget stamp) rest fits rules values =
+    ap (entry_at expected) regrouped
+    ∙ rw (kept_again (is_expected expected) number more fits is, ops_again number ops rest rules values) refl
+entry_again expected number (Forget stamp) rest fits rules values is =
     let more : List ℕ = long stamp ++ rest in
     let regrouped : entry number (Forget stamp) ++ rest ≡ 2 ∷ (long number ++ more) =
     ap (λ (s : List ℕ). 2 ∷ s) (append_assoc (long number) (long stamp) rest) in
-    ap entry_at regrouped
+    ap (entry_at expected) regrouped
     ∙ rw (
-      long_again number more fits,
+      kept_again (is_expected expected) number more fits is,
       kept_again (λ s. nat_lt s number) stamp rest (omega (arith, rules, fits)) (lt-ltb stamp number rules),
     ) refl
 
 -- the bytes of an entry, whatever is behind them
-pub spelled_again : (bytes more : List ℕ) (number : ℕ) (e : Entry) → SpellsEntry bytes number e
-    → entry_at (bytes ++ more) ≡ Ok ((number, e), more)
-spelled_again bytes more number e s =
-    ap (λ (t : List ℕ). entry_at (t ++ more)) s.spelled ∙ entry_again number e more s.fits s.rules s.values
+pub spelled_again : (expected : Option ℕ) (bytes more : List ℕ) (number : ℕ) (e : Entry) → SpellsEntry bytes number e
+    → is_expected expected number ≡ true → entry_at expected (bytes ++ more) ≡ Ok ((number, e), more)
+spelled_again expected bytes more number e s is =
+    ap (λ (t : List ℕ). entry_at expected (t ++ more)) s.spelled
+    ∙ entry_again expected number e more s.fits s.rules s.values is

@@ -22,7 +22,7 @@ use Rattle.docs_format.proofs.ForwardNodes.{document_forward}
 use Rattle.docs_format.proofs.Rules.{KeepsFields, document_kept, only_size}
 use Rattle.docs_format.proofs.Takes.{document_takes}
 use Rattle.journal_bodies.specs.Entries.{HasValues, IsEntry, entry, expect, is_expect, op}
-use Rattle.journal_bodies.specs.EntryReading.{entry_at, expect_at, fresh_at, op_at, ops_at, put_at, said_at}
+use Rattle.journal_bodies.specs.EntryReading.{entry_at, expect_at, fresh_at, is_expected, op_at, ops_at, put_at, said_at}
 use Rattle.journal_bodies.specs.RootReading.{long_at}
 use Rattle.journal_bodies.specs.Roots.{listed, long}
 use Rattle.journal_bodies.proofs.OpLists.{AreRead, MayFollow, no_rule_broken, none_read, read_push}
@@ -202,8 +202,9 @@ ops_reads bytes fits =
     listed_reads op_at op AreRead op_reads IsCount bytes (keeping rule count_at bytes) fits
     (keeping_reads count (λ n. n < 2 ^ 32) rule count_at bytes (count_reads bytes fits)) none_read
 
-pub record KeepsEntry (x : ℕ × Entry) : Type 0 where
+pub record KeepsEntry (wanted : Option ℕ) (x : ℕ × Entry) : Type 0 where
   pub fits : x.0 < 2 ^ 64
+  pub expected : is_expected wanted x.0 ≡ true
   pub rules : IsEntry x.0 x.1
   pub values : HasValues x.1
 
@@ -267,16 +268,19 @@ entry_is : (kind number : ℕ) (e : Entry) → kind ≡ kind_of e
 entry_is kind number (Commit ops) is = ap (λ (k : ℕ). (k ∷ long number) ++ listed op ops) is
 entry_is kind number (Forget stamp) is = ap (λ (k : ℕ). (k ∷ long number) ++ long stamp) is
 
-pub entry_reads : (bytes : List ℕ) → IsBytes bytes → Reads spell_entry KeepsEntry bytes (entry_at bytes)
+pub entry_reads : (expected : Option ℕ) (bytes : List ℕ) → IsBytes bytes
+    → Reads spell_entry (KeepsEntry expected) bytes (entry_at expected bytes)
 unfolding entry_at
-entry_reads bytes fits =
+entry_reads expected bytes fits =
     let two : ℕ → Bool = λ b. (b == 1) || (b == 2) in
-    step byte _ spell_entry KeepsEntry bytes [] bytes (keeping two kind_at bytes) _ (start bytes fits)
+    let Keeps : ℕ × Entry → Type 0 = KeepsEntry expected in
+    step byte _ spell_entry Keeps bytes [] bytes (keeping two kind_at bytes) _ (start bytes fits)
     (kept_byte two bytes fits)
-    (λ k t p. step long Fits spell_entry KeepsEntry bytes _ k.1 (long_at k.1) _ t (long_reads k.1 t.rest_fits)
-    (λ n u q. step spell_said (IsSaid k.0 n.0) spell_entry KeepsEntry bytes _ n.1 (said_at k.0 n.0 n.1) _ u
+    (λ k t p. step long _ spell_entry Keeps bytes _ k.1 (keeping (is_expected expected) long_at k.1) _ t
+    (kept_long (is_expected expected) k.1 t.rest_fits)
+    (λ n u q. step spell_said (IsSaid k.0 n.0) spell_entry Keeps bytes _ n.1 (said_at k.0 n.0 n.1) _ u
     (said_reads k.0 n.0 n.1 u.rest_fits p.1)
     (λ e w r. (
       subst (λ (s : List ℕ). Takes bytes s e.1) (entry_is k.0 n.0 e.0 r.of_kind) w,
-      record { fits = q; rules = r.rules; values = r.values },
+      record { fits = q.0; expected = q.1; rules = r.rules; values = r.values },
     ))))

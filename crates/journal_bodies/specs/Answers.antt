@@ -1,5 +1,5 @@
 -- What the code returns, and what reading gives.
-use Rattle.std.specs.Prelude.{◌≡◌, ◌+◌, ◌-◌, ◌^◌, ◌≤◌, ◌==◌, ℕ, List, length, map, sum_by, Result, Ok, Err, if◌then◌else◌}
+use Rattle.std.specs.Prelude.{◌≡◌, ◌+◌, ◌-◌, ◌^◌, ◌≤◌, ◌==◌, ℕ, List, length, map, sum_by, Option, Result, Ok, Err, if◌then◌else◌}
 use Rattle.std.specs.Borrow.{Bor}
 use Rattle.std.specs.BTreeMap.{BTreeMap, get_by}
 use Rattle.std.specs.Option.{is_some}
@@ -34,9 +34,10 @@ placed len (Err fault) = Err (len - left_of fault)
 abbrev pub root_of : List ℕ → Result PlainRoot ℕ
 root_of bytes = placed (length bytes) (alone (root_at bytes))
 
--- the number and the entry that bytes spell, or the place of the first truncated or invalid field
-abbrev pub entry_of : List ℕ → Result (ℕ × Entry) ℕ
-entry_of bytes = placed (length bytes) (alone (entry_at bytes))
+-- the number and the entry that bytes spell, or the place of the first truncated or invalid field; where a number is
+-- expected, another one is invalid
+abbrev pub entry_of : Option ℕ → List ℕ → Result (ℕ × Entry) ℕ
+entry_of expected bytes = placed (length bytes) (alone (entry_at expected bytes))
 
 -- no more bytes are left from the field of the error on than there are
 abbrev pub IsWithin : ℕ → DecodeError → Type 0

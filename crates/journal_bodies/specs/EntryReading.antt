@@ -1,5 +1,5 @@
 -- Reading an entry from left to right, up to the first invalid field.
-use Rattle.std.specs.Prelude.{ℕ, ◌+◌, ◌^◌, ◌&&◌, ◌||◌, not, nat_lt, nat_le, ◌==◌, List, [], map, sum_by}
+use Rattle.std.specs.Prelude.{ℕ, ◌+◌, ◌^◌, Bool, true, ◌&&◌, ◌||◌, not, nat_lt, nat_le, ◌==◌, List, [], map, sum_by}
 use Rattle.std.specs.Prelude.{Option, Some, None, Ok, if◌then◌else◌}
 use Rattle.doc_model.specs.Documents.{PlainDocument, document_size}
 use Rattle.doc_model.specs.Operations.{op_size, uri_of}
@@ -47,9 +47,15 @@ said_at kind number bytes =
     if kind == 1 then (ops_at bytes >>= λ ops. Ok (Commit ops.0, ops.1))
     else (keeping (λ stamp. nat_lt stamp number) long_at bytes >>= λ stamp. Ok (Forget stamp.0, stamp.1))
 
-unfoldable pub entry_at : List ℕ → Read (ℕ × Entry)
-entry_at bytes = do
+-- an entry may have this number: any, or the one that is expected
+abbrev pub is_expected : Option ℕ → ℕ → Bool
+is_expected None number = true
+is_expected (Some expected) number = number == expected
+
+-- an entry, of which a number may be expected; another number is invalid
+unfoldable pub entry_at : Option ℕ → List ℕ → Read (ℕ × Entry)
+entry_at expected bytes = do
   kind ← keeping (λ byte. (byte == 1) || (byte == 2)) kind_at bytes
-  number ← long_at kind.1
+  number ← keeping (is_expected expected) long_at kind.1
   said ← said_at kind.0 number.0 number.1
   Ok ((number.0, said.0), said.1)

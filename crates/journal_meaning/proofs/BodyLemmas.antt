@@ -1,5 +1,5 @@
 -- A log whose bytes or bodies break a rule breaks it at one place.
-use Rattle.std.proofs.Common.{◌≡◌, ◌⊎◌, inl, inr, ⊎_elim, ℕ, zero, suc, List, [], ◌∷◌, All, Some, None, Result, Ok, Err, slice_get, sym, ap, ◌∙◌, subst, arith}
+use Rattle.std.proofs.Common.{◌≡◌, ◌⊎◌, inl, inr, ⊎_elim, ℕ, zero, suc, List, [], ◌∷◌, All, Some, None, Result, Ok, Err, slice_get, refl, sym, ap, ◌∙◌, subst, arith}
 use Rattle.std.proofs.lemmas.Bool.{cases_order}
 use Rattle.std.proofs.lemmas.List.Elements.{All-head, All-tail}
 use Rattle.std.specs.List.{AllZip}
@@ -53,10 +53,10 @@ one_bad_root body at to (inr this) (inr that) = one_count that.0 at to
 
 good_entry : (body : List ℕ) (at : ℕ) → IsEntryBody body → IsBadEntry body at → ⊥
 good_entry body at good bad =
-    ok_err good.0 at (entry_of body) (entries_are_read body good.0.0 good.0.1 good.1) bad
+    ok_err good.0 at (entry_of None body) (entries_are_read None body good.0.0 good.0.1 good.1 refl) bad
 
 one_bad_entry : (body : List ℕ) (at to : ℕ) → IsBadEntry body at → IsBadEntry body to → at ≡ to
-one_bad_entry body at to this that = same_err at to (entry_of body) this that
+one_bad_entry body at to this that = same_err at to (entry_of None body) this that
 
 -- ---- the bodies of a log
 

@@ -1,5 +1,5 @@
 -- The bytes of the logs say one root and one list of entries.
-use Rattle.std.proofs.Common.{◌≡◌, ℕ, ◌<◌, ◌≤◌, List, [], ◌∷◌, ◌++◌, length, map, All, Ok, refl, sym, ap, ap₂, ◌∙◌, subst, arith}
+use Rattle.std.proofs.Common.{◌≡◌, ℕ, ◌<◌, ◌≤◌, List, [], ◌∷◌, ◌++◌, length, map, All, None, Ok, refl, sym, ap, ap₂, ◌∙◌, subst, arith}
 use Rattle.std.proofs.lemmas.List.Elements.{All-contains, All-head, All-same, All-tail, Contains-append_right}
 use Rattle.std.specs.List.{AllZip}
 use Rattle.disk_model.specs.Logs.{Image}
@@ -16,8 +16,8 @@ use Rattle.journal_meaning.specs.Bodies.{AreRoots, Bodies, HasBodies, IsJournal,
 -- a body spells one entry
 one_entry : (body : List ℕ) (e f : Numbered) → SpellsEntry body e.0 e.1 → SpellsEntry body f.0 f.1 → e ≡ f
 one_entry body e f one other =
-    let this : entry_of body ≡ Ok e = entries_are_read body e.0 e.1 one in
-    let that : entry_of body ≡ Ok f = entries_are_read body f.0 f.1 other in
+    let this : entry_of None body ≡ Ok e = entries_are_read None body e.0 e.1 one refl in
+    let that : entry_of None body ≡ Ok f = entries_are_read None body f.0 f.1 other refl in
     cc
 
 pub one_root : (body : List ℕ) (r s : PlainRoot) → SpellsRoot body r → SpellsRoot body s → r ≡ s

@@ -1,5 +1,5 @@
 -- Where the bytes of the logs break a rule.
-use Rattle.std.specs.Prelude.{ℕ, ◌≡◌, ◌≢◌, ◌⊎◌, ◌+◌, ◌-◌, ◌<◌, ◌≤◌, Bool, true, false, ◌||◌, ◌&&◌, nat_lt, ◌==◌, List, [], ◌∷◌, ◌++◌, map, length, take, slice_get, Some, Err, if◌then◌else◌}
+use Rattle.std.specs.Prelude.{ℕ, ◌≡◌, ◌≢◌, ◌⊎◌, ◌+◌, ◌-◌, ◌<◌, ◌≤◌, Bool, true, false, ◌||◌, ◌&&◌, nat_lt, ◌==◌, List, [], ◌∷◌, ◌++◌, map, length, take, slice_get, Some, None, Err, if◌then◌else◌}
 use Rattle.disk_model.specs.Logs.{Image}
 use Rattle.doc_model.specs.declared.entry.Entry.{Entry}
 use Rattle.doc_model.specs.declared.entry.Entry.TheVariants.{Commit, Forget}
@@ -48,7 +48,7 @@ abbrev pub IsEntryBody : List ℕ → Type 0
 IsEntryBody body = (e : Numbered) × SpellsEntry body e.0 e.1
 
 abbrev pub IsBadEntry : List ℕ → ℕ → Type 0
-IsBadEntry body at = entry_of body ≡ Err at
+IsBadEntry body at = entry_of None body ≡ Err at
 
 -- a body of a journal breaks a rule at this place
 abbrev pub AreBadEntries : List (List ℕ) → ℕ → Type 0

@@ -35,7 +35,7 @@ fn entry_at(alloc: Global, file: u8, gate: u64, body: &[u8]) -> Result<(u64, Ent
     ensures { MatchResult result (λ e. SpellsEntry body.now e.0 e.1)
         (IsUnread file (BreaksAt IsBadEntry gate body.now)) }
 {
-    match read_entry(alloc, body) {
+    match read_entry(alloc, body, None) {
         Ok(entry) => Ok(entry),
         Err(why) => Err(body_bad(file, gate, body.len(), why)),
     }

@@ -63,7 +63,7 @@ fn commit(alloc: Global, number: u64, ops: &Ops, bytes: &[u8]) -> Result<String,
 
 /// The entry of some bytes and its number, or their fault.
 pub fn entry(alloc: Global, bytes: &[u8]) -> Result<String, AllocError> {
-    match read_entry(alloc, bytes) {
+    match read_entry(alloc, bytes, None) {
         Ok((number, Entry::Commit(ops))) => commit(alloc, number, &ops, bytes),
         Ok((number, Entry::Forget(to))) => format!(in alloc; "{number}, forget {to}"),
         Err(bad) => format!(in alloc; "{bad:?}"),
