@@ -1,0 +1,17 @@
+pub mod Rising
+pub mod OneLemmas
+pub mod EntryLemmas
+pub mod NextLemmas
+pub mod EmptyLemmas
+pub mod BaseLemmas
+pub mod ShownLemmas
+pub mod FileLemmas
+pub mod AlikeLemmas
+pub mod LengthLemmas
+pub mod FrameLemmas
+pub mod LogLemmas
+pub mod BodyLemmas
+pub mod BreakLemmas
+pub mod TurnLemmas
+pub mod FitLemmas
+pub mod DamageLemmas

@@ -1,0 +1,9 @@
+pub mod GateLemmas
+pub mod RootLemmas
+pub mod EntryLemmas
+pub mod LastLemmas
+pub mod NumberLemmas
+pub mod WalkLemmas
+pub mod NewestLemmas
+pub mod TurnLemmas
+pub mod ReplayLemmas
