@@ -1,0 +1,9 @@
+//! Tests of the structures that parts are made of.
+#![tactic(auto)]
+
+#[cfg(test)]
+mod sharing;
+#[cfg(test)]
+mod stamps;
+#[cfg(test)]
+mod uris;

@@ -1,0 +1,37 @@
+use Rattle.std.proofs.Common.{min, map, length, ap, ◌∙◌, arith, rules}
+use Rattle.std.specs.Arc.{arc_value}
+use Rattle.std.specs.Slice.Iter.{chunks_rest}
+use Rattle.stamp_table.proofs.Tiling.{cut_all, cut_more, cut_none, tile_more}
+use Rattle.stamp_table.proofs.stamps.Stamps.of.Goals as goal
+
+pub loop-block-init : goal.loop-block-init
+loop-block-init c = record {
+  can_next = search rules;
+  ends = tt;
+  size = search rules;
+  cut = cut_none _ _ _ _ (ap (map arc_value) c.in_ok-blocks.ensures.items) (search rules);
+}
+
+pub loop-block-preserved : goal.loop-block-preserved
+loop-block-preserved c =
+    let steps = c.in-Some.ensures.steps in
+    let cut = c.loop-block.invariant.cut in
+    let rest = chunks_rest c.loop-block.block-iterator in
+    let holds = c.in_ok-new.ensures.ok ∙ c.in_ok-block.ensures in
+    let more = tile_more arc_value _ _ _ _ c.in_ok-push.ensures.items holds in
+    record {
+      can_next = search rules;
+      ends = tt;
+      size = steps.0 ∙ c.loop-block.invariant.size;
+      cut = cut_more 65536 _ _ _ _ _ _ more steps.1.0
+          (steps.1.1 ∙ ap (λ size. min size (length rest)) c.loop-block.invariant.size)
+          steps.1.2 cut;
+    }
+
+pub invariant_of-result : goal.invariant_of-result
+invariant_of-result c =
+    let all = cut_all 65536 _ _ _ c.in-None.ensures.steps.1.0 c.loop-block.invariant.cut in
+    (all.1, omega (arith, ap length all.0, c.args.list.ok.0))
+
+pub returns : goal.returns
+returns c = (cut_all 65536 _ _ _ c.in-None.ensures.steps.1.0 c.loop-block.invariant.cut).0
