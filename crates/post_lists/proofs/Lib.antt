@@ -1,0 +1,9 @@
+pub mod Rising
+pub mod Digits
+pub mod Lists
+pub mod Places
+pub mod Skips
+pub mod Jumps
+pub mod Damage
+pub mod Choosing
+pub mod Merging
