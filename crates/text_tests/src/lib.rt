@@ -4,6 +4,8 @@
 #[cfg(test)]
 mod documents;
 #[cfg(test)]
+mod formats;
+#[cfg(test)]
 mod lines;
 #[cfg(test)]
 mod queries;
