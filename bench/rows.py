@@ -35,6 +35,8 @@ def json_text(data):
 
 def rule(there, data):
     indexes = [tuple(pair.rsplit(":", 1)) for pair in there.split()]
+    if len(indexes) > 64 or len(set(indexes)) < len(indexes):
+        return "indexes refused"
     found = plain_queries.broken(plain_shapes.judge(plain_json.read(data)), indexes)
     if found is None:
         return "kept"

@@ -2,7 +2,9 @@
 
 use crate::bodies::{document, entry, root};
 use crate::cells::bytes_of;
+use crate::histories::history;
 use crate::queries::{bounds, check, leaps, near, starts, verdict};
+use crate::rules::{members, ops, size};
 use crate::texts::{cts, folded, json, words};
 use std::alloc::{AllocError, Global};
 
@@ -46,6 +48,13 @@ pub fn answer(alloc: Global, kind: &str, input: &str) -> Result<String, AllocErr
         "check" => check(alloc, first, &bytes_of(alloc, second)?),
         "near" => near(alloc, first, second),
         "leaps" => leaps(alloc, first, second),
+        "size" => {
+            let (names, root) = two(second);
+            size(alloc, first, names, root)
+        }
+        "members" => members(alloc, first, second),
+        "ops" => ops(alloc, input),
+        "history" => history(alloc, input),
         _ => of_bytes(alloc, kind, &bytes_of(alloc, input)?),
     }
 }

@@ -31,7 +31,7 @@ pub fn document(alloc: Global, bytes: &[u8]) -> Result<String, AllocError> {
         Err(bad) => return format!(in alloc; "{bad:?}"),
     };
     let mut text = String::new(alloc);
-    add_document(alloc, &mut text, &document)?;
+    add_document(alloc, &mut text, &document.copy(alloc)?)?;
     let again = docs_format::encode(alloc, &document)?;
     written_so(alloc, text, again.as_slice() == bytes)
 }
@@ -54,7 +54,7 @@ fn add_op(alloc: Global, out: &mut String, op: &Op) -> Result<(), AllocError> {
 /// A commit and its number.
 fn commit(alloc: Global, number: u64, ops: &Ops, bytes: &[u8]) -> Result<String, AllocError> {
     let mut text = format!(in alloc; "{number}")?;
-    for op in ops.as_slice() {
+    for op in ops.copy(alloc)?.as_slice() {
         add_op(alloc, &mut text, op)?;
     }
     let again = commit_body(alloc, number, ops)?;
@@ -71,8 +71,8 @@ pub fn entry(alloc: Global, bytes: &[u8]) -> Result<String, AllocError> {
 }
 
 /// Appends the settings of a root.
-fn add_settings(out: &mut String, root: &Root) -> Result<(), AllocError> {
-    let settings = &root.settings;
+fn add_settings(alloc: Global, out: &mut String, root: &Root) -> Result<(), AllocError> {
+    let settings = root.settings.copy(alloc)?;
     write!(
         out,
         ", save at {}, merge at {}",
@@ -108,7 +108,7 @@ pub fn root(alloc: Global, bytes: &[u8]) -> Result<String, AllocError> {
     };
     let stamps = (root.checkpoint, root.merge, root.horizon);
     let mut text = format!(in alloc; "{} at {stamps:?}, next {}", root.number, root.next)?;
-    add_settings(&mut text, &root)?;
+    add_settings(alloc, &mut text, &root)?;
     add_files(&mut text, &root)?;
     let again = root_body(alloc, &root)?;
     written_so(alloc, text, again.as_slice() == bytes)

@@ -5,8 +5,10 @@
 mod answers;
 mod bodies;
 mod cells;
+mod histories;
 mod places;
 mod queries;
+mod rules;
 mod texts;
 
 use answers::answer;

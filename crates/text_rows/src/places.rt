@@ -34,8 +34,9 @@ fn collections(alloc: Global, names: &str) -> Result<Texts, AllocError> {
     Ok(texts)
 }
 
-/// The range indexes of a cell with a `NAME:decimal` or `NAME:string` for each, and spaces between them.
-pub fn indexes(alloc: Global, cell: &str) -> Result<Indexes, AllocError> {
+/// The range indexes of a cell with a `NAME:decimal` or `NAME:string` for each, and spaces between them. `None` says
+/// that they are refused.
+pub fn indexes(alloc: Global, cell: &str) -> Result<Option<Indexes>, AllocError> {
     let mut list = Vec::new(alloc);
     for pair in cell.split(' ') {
         if let Some((name, kind)) = pair.rsplit_once(':') {
@@ -46,7 +47,7 @@ pub fn indexes(alloc: Global, cell: &str) -> Result<Indexes, AllocError> {
             list.push((Text::from_str(alloc, name)?, kind))?;
         }
     }
-    Ok(Indexes::new(list).unwrap_or(Indexes::none(alloc)))
+    Ok(Indexes::new(list))
 }
 
 /// The name of a kind of range index.
@@ -73,6 +74,15 @@ pub fn lists(alloc: Global, cell: &str) -> Result<Items<Items<u64>>, AllocError>
     let mut out = Items::new(alloc);
     for list in cell.strip_suffix('/').unwrap_or(cell).split('/').skip(1) {
         out.push(numbers(alloc, list)?)?;
+    }
+    Ok(out)
+}
+
+/// Texts, each between two strokes.
+pub fn strokes(alloc: Global, cell: &str) -> Result<Texts, AllocError> {
+    let mut out = Texts::new(alloc);
+    for text in cell.strip_suffix('/').unwrap_or(cell).split('/').skip(1) {
+        out.push(Text::from_str(alloc, text)?)?;
     }
     Ok(out)
 }

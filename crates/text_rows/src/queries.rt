@@ -78,7 +78,10 @@ pub fn check(alloc: Global, there: &str, query: &[u8]) -> Result<String, AllocEr
         Ok(query) => query,
         Err(bad) => return format!(in alloc; "{bad:?}"),
     };
-    match check_query(alloc, &query, &indexes(alloc, there)?) {
+    let Some(indexes) = indexes(alloc, there)? else {
+        return String::from_str(alloc, "indexes refused");
+    };
+    match check_query(alloc, &query.copy(alloc)?, &indexes) {
         Ok(()) => String::from_str(alloc, "kept"),
         Err(QueryBad::NoRange { name, kind }) => {
             format!(in alloc; "NoRange {} {}", name.as_str(), kind_name(kind))

@@ -1,7 +1,7 @@
-//! The text of a query that no text says, so that no row can have it.
+//! A query that no text says, so that no row can have it: its text, and its rules.
 
 use cts_text::write;
-use doc_model::{Compare, Query, Scalar, Scalars, Text, Texts};
+use doc_model::{Compare, Indexes, Query, Scalar, Scalars, Text, Texts, check_query};
 use std::alloc::{AllocError, Global};
 use std::test::Fail;
 
@@ -26,5 +26,13 @@ fn null_and_booleans_are_written_in_a_range_query(rt: HostRuntime) -> Result<(),
         r#"{"jsonPropertyRangeQuery":{"property":["p"],"operator":"<=","value":[null,true,false]}}"#;
     let written = write(rt.alloc(), &odd_range(rt.alloc())?)?;
     assert_eq!(rt; written.as_str(), wanted);
+    Ok(())
+}
+
+#[test]
+fn null_and_booleans_need_no_index(rt: HostRuntime) -> Result<(), Fail> {
+    let query = odd_range(rt.alloc())?;
+    let none = Indexes::none(rt.alloc());
+    assert!(rt; check_query(rt.alloc(), &query, &none).is_ok());
     Ok(())
 }

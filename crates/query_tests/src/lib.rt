@@ -1,7 +1,0 @@
-//! Tests of the plain history, by worked entries and queries.
-#![tactic(auto)]
-
-#[cfg(test)]
-mod fixtures;
-#[cfg(test)]
-mod histories;
