@@ -33,7 +33,7 @@ fn reply_to(alloc: Global, history: &mut History, step: &str) -> Result<String, 
     }
 }
 
-/// The reply to the commit of an operation.
+/// Commits an operation, and enters the commit where it isn't refused.
 fn enter(alloc: Global, history: &mut History, step: &str) -> Result<String, AllocError> {
     let mut list = Vec::new(alloc);
     if let Some(op) = op(alloc, step)? {
@@ -47,6 +47,11 @@ fn enter(alloc: Global, history: &mut History, step: &str) -> Result<String, All
     if let CommitReply::Entered { .. } = &reply {
         history.push(Entry::Commit(ops))?;
     }
+    told(alloc, &reply)
+}
+
+/// The reply to a commit.
+fn told(alloc: Global, reply: &CommitReply) -> Result<String, AllocError> {
     match reply {
         CommitReply::Conflict { uri, found, front } => {
             format!(in alloc; "Conflict {} {found} {front}", uri.as_str())
