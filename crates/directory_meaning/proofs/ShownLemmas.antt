@@ -141,9 +141,15 @@ same_told files some others h m same told = record {
   horizon = told.horizon;
 }
 
+-- of one image the same files tell one history and one merge timestamp
+pub one_is_told : (files : Files) (image : Image) (some others : Bodies) (h k : History) (m n : ℕ) →
+    HasBodies some image → HasBodies others image → Tells files some h m → Tells files others k n → (h ≡ k) × (m ≡ n)
+one_is_told files image some others h k m n has have one two =
+    one_history files others h k m n (same_told files some others h m
+    (λ file known. one_frames some others image file has have known) one) two
+
 pub one_base_is_shown : OneBaseIsShown
 one_base_is_shown files image base other one two =
-    let told = same_told files one.bodies two.bodies one.history one.merge
-    (λ file known. one_frames one.bodies two.bodies image file one.has two.has known) one.tells in
-    let same = one_history files two.bodies one.history two.history one.merge two.merge told two.tells in
+    let same = one_is_told files image one.bodies two.bodies one.history two.history one.merge two.merge one.has two.has
+    one.tells two.tells in
     one.shown ∙ ap₂ shown_from same.1 same.0 ∙ sym two.shown

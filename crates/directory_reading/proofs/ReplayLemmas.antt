@@ -1,5 +1,5 @@
 -- What two journals hold past a checkpoint.
-use Rattle.std.proofs.Common.{◌≡◌, ◌≢◌, ◌∙◌, ◌≤◌, ◌+◌, ℕ, zero, suc, Bool, true, false, cond, List, [], ◌∷◌, ◌++◌, Result, Ok, Err, MatchResult, inl, inr, refl, sym, ap, subst, length, map, nat_eq, arith}
+use Rattle.std.proofs.Common.{◌≡◌, ◌≢◌, ◌∙◌, ◌≤◌, ◌+◌, ℕ, zero, suc, Bool, true, false, cond, List, [], ◌∷◌, ◌++◌, Result, Ok, Err, MatchResult, inl, inr, refl, sym, ap, subst, length, map, nat_eq, arith, Option, option_map}
 use Rattle.std.specs.List.{AllByRecursion, AllZip}
 use Rattle.std.proofs.lemmas.List.Elements.{All-from_recursion}
 use Rattle.doc_meaning.specs.History.{AreEntries, merge_after}
@@ -8,10 +8,11 @@ use Rattle.journal_bodies.specs.Roots.{PlainRoot}
 use Rattle.directory_meaning.specs.Bodies.{Bodies, Numbered, RiseFrom, last_of, other_of, own_of, past}
 use Rattle.directory_meaning.specs.Current.{Chooses, GoesOn}
 use Rattle.directory_meaning.specs.Damages.{BreaksTurn}
-use Rattle.directory_reading.specs.Reading.{HasEntries, Replays}
+use Rattle.directory_reading.specs.Reading.{HasEntries, Replays, frozen_of}
 use Rattle.directory_reading.specs.Unread.{IsUnread}
 use Rattle.directory_reading.specs.Walking.{CanWalk, ComesLast, IsKept, ReplaysBoth, StopsIn}
 use Rattle.directory_reading.specs.declared.entries.EntriesRead.{EntriesRead}
+use Rattle.directory_reading.specs.declared.replay.Frozen.{Frozen}
 use Rattle.directory_reading.specs.declared.replay.Replay.{Replay}
 use Rattle.directory_reading.specs.declared.unread.LogBad.{LogBad}
 use Rattle.directory_reading.proofs.EntryLemmas.{unread}
@@ -81,7 +82,7 @@ replays_both root entries_0 entries_1 file replay r s last t = record {
   current = chooses_last root entries_0 entries_1 file replay r s last t;
   frozen =
       t.last
-      ∙ ap (λ (f : ℕ). last_of (past root.checkpoint (other_of f entries_0 entries_1))) (sym t.goes_to);
+      ∙ ap (λ (f : ℕ). frozen_of root.merge (past root.checkpoint (other_of f entries_0 entries_1))) (sym t.goes_to);
 }
 
 module _ (bodies : Bodies) (root : PlainRoot) (first second : EntriesRead) (zeros : HasEntries (bodies 0) first)
@@ -125,3 +126,16 @@ pub the_second : (file : ℕ) → file ≤ 1 → (file ≡ 0 → ⊥) → file �
 the_second zero low other = absurd (other refl)
 the_second (suc zero) low other = refl
 the_second (suc (suc n)) low other = absurd (omega arith)
+
+-- the end of the entries past a checkpoint that were replayed, from a list that was lent
+pub frozen_past : (root : PlainRoot) (lent entries : List Numbered) (merge : ℕ) (last : Option ℕ)
+    (frozen : Option Frozen) →
+    frozen ≡ option_map (λ entry. record { entry = entry; merge = merge }) last →
+    last ≡ last_of (past root.checkpoint lent) → lent ≡ entries →
+    merge ≡ merge_after root.merge (map (λ e. e.1) (past root.checkpoint entries)) →
+    frozen ≡ frozen_of root.merge (past root.checkpoint entries)
+frozen_past root lent entries merge last frozen is ends same merges =
+    is
+    ∙ ap (λ (m : ℕ). option_map (λ entry. record { entry = entry; merge = m }) last) merges
+    ∙ ap (option_map (λ entry. record { entry = entry; merge = merge_after root.merge (map (λ e. e.1) (past
+    root.checkpoint entries)) })) (ends ∙ ap (λ (l : List Numbered). last_of (past root.checkpoint l)) same)

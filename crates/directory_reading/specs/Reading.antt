@@ -1,5 +1,5 @@
 -- What was read of the bodies of logs.
-use Rattle.std.specs.Prelude.{ℕ, ◌≡◌, ◌<◌, ◌+◌, List, [], length, map, slice_get, Option, Some, MatchOption}
+use Rattle.std.specs.Prelude.{ℕ, ◌≡◌, ◌<◌, ◌+◌, List, [], length, map, slice_get, Option, option_map, Some, MatchOption}
 use Rattle.doc_meaning.specs.History.{AreEntries, merge_after}
 use Rattle.journal_bodies.specs.Roots.{PlainRoot, SpellsRoot}
 use Rattle.directory_meaning.specs.Bodies.{AreRoots, Bodies, IsJournal, IsNewest, Numbered, RiseFrom, by_first_number, last_of, other_of, past}
@@ -7,6 +7,7 @@ use Rattle.directory_meaning.specs.Current.{Chooses}
 use Rattle.directory_meaning.specs.Damages.{FindsNewest, NamesFiles, gate_of}
 use Rattle.directory_reading.specs.declared.entries.EntriesRead.{EntriesRead}
 use Rattle.directory_reading.specs.declared.newest.Newest.{Newest}
+use Rattle.directory_reading.specs.declared.replay.Frozen.{Frozen}
 use Rattle.directory_reading.specs.declared.replay.Replay.{Replay}
 
 -- the entries of a journal with these bodies, and the places of the gates of their frames
@@ -51,6 +52,11 @@ pub record IsNewestRoot (bodies : Bodies) (found : Newest) : Type 0 where
   pub gate : found.gate ≡ gate_of (bodies found.file) k
   pub files : PlacesFiles found.gate found.root found.files
 
+-- the last of the entries of a frozen journal, which follow this merge timestamp, and the merge timestamp after it
+abbrev pub frozen_of : ℕ → List Numbered → Option Frozen
+frozen_of merge entries = option_map
+    (λ entry. record { entry = entry; merge = merge_after merge (map (λ e. e.1) entries) }) (last_of entries)
+
 -- the entries of two journals past a root's checkpoint, in order, and the journal that takes the next entry
 pub record Replays (root : PlainRoot) (entries_0 entries_1 : List Numbered) (replay : Replay) : Type 0 where
   pub entries : replay.entries.items ≡ by_first_number (past root.checkpoint entries_0) (past root.checkpoint entries_1)
@@ -58,4 +64,4 @@ pub record Replays (root : PlainRoot) (entries_0 entries_1 : List Numbered) (rep
   pub rules : AreEntries root.checkpoint root.merge (map (λ e. e.1) replay.entries.items)
   pub merge : replay.merge ≡ merge_after root.merge (map (λ e. e.1) replay.entries.items)
   pub current : Chooses root.checkpoint entries_0 entries_1 replay.current replay.resets_first
-  pub frozen : replay.frozen ≡ last_of (past root.checkpoint (other_of replay.current entries_0 entries_1))
+  pub frozen : replay.frozen ≡ frozen_of root.merge (past root.checkpoint (other_of replay.current entries_0 entries_1))

@@ -3,8 +3,9 @@ use Rattle.std.specs.Prelude.{ℕ, ◌≡◌, ◌≢◌, ◌⊎◌, ◌+◌, ◌
 use Rattle.doc_meaning.specs.History.{AreEntries, merge_after}
 use Rattle.journal_bodies.specs.Entries.{HasValues, IsEntry}
 use Rattle.journal_bodies.specs.Roots.{PlainRoot}
-use Rattle.directory_meaning.specs.Bodies.{Numbered, RiseFrom, by_first_number, last_of, other_of, own_of, past}
+use Rattle.directory_meaning.specs.Bodies.{Numbered, RiseFrom, by_first_number, other_of, own_of, past}
 use Rattle.directory_meaning.specs.Damages.{IsBelow, goes_first}
+use Rattle.directory_reading.specs.Reading.{frozen_of}
 use Rattle.directory_reading.specs.declared.entries.EntriesRead.{EntriesRead}
 use Rattle.directory_reading.specs.declared.replay.Replay.{Replay}
 use Rattle.directory_reading.specs.declared.walk.ReplayPoint.{ReplayPoint}
@@ -73,7 +74,7 @@ pub record ReplaysBoth (root : PlainRoot) (file : ℕ) (earlier later : List Num
   pub merged : replay.merge ≡ front.merge
   pub goes_to : replay.current ≡ file
   pub stays : IsFalse replay.resets_first
-  pub last : replay.frozen ≡ last_of (past root.checkpoint earlier)
+  pub last : replay.frozen ≡ frozen_of root.merge (past root.checkpoint earlier)
 
 -- an entry of the earlier journal is misplaced, or one of the later journal after it
 abbrev pub StopsIn : PlainRoot → ℕ → EntriesRead → EntriesRead → ℕ → ℕ → Type 0

@@ -10,6 +10,6 @@ mod walk;
 
 pub use entries::EntriesRead;
 pub use newest::{Newest, newest_root};
-pub use replay::{Replay, replay_journals};
+pub use replay::{Frozen, Replay, replay_journals};
 pub use roots::RootsRead;
 pub use unread::LogBad;

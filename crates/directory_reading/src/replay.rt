@@ -15,6 +15,13 @@ use doc_model::Entry;
 use journal_bodies::Root;
 use std::alloc::{AllocError, Global};
 
+/// The last entry of a frozen journal, and the merge timestamp after it.
+#[derive(Clone, Copy, Debug, PartialEq, Eq)]
+pub struct Frozen {
+    pub entry: u64,
+    pub merge: u64,
+}
+
 /// What two journals have past a root's checkpoint.
 #[derive(Debug, Drop)]
 pub struct Replay {
@@ -26,8 +33,8 @@ pub struct Replay {
     pub current: u8,
     /// Whether the first journal must be reset before: no entry is past the checkpoint, and neither journal is empty.
     pub resets_first: bool,
-    /// The last entry of the other journal, if it has one past the checkpoint.
-    pub frozen: Option<u64>,
+    /// The end of the other journal, if it has entries past the checkpoint: it is frozen then.
+    pub frozen: Option<Frozen>,
 }
 
 /// Replays the entries of two journals past a root's checkpoint, one journal after the other. Their numbers must rise
@@ -100,6 +107,16 @@ fn last_past(checkpoint: u64, entries: &[(u64, Entry)]) -> Option<u64>
     last
 }
 
+/// The end of a frozen journal whose last entry has this number, with the merge timestamp after it.
+fn frozen_at(last: Option<u64>, merge: u64) -> Option<Frozen>
+    ensures { result ≡ option_map (λ entry. record { entry = entry; merge = merge }) last }
+{
+    match last {
+        Some(entry) => Some(Frozen { entry, merge }),
+        None => None,
+    }
+}
+
 /// Replays an earlier and a later journal. The later one has the newest entries.
 fn replay_both(
     root: &Root,
@@ -120,7 +137,7 @@ fn replay_both(
     };
     let between = walk_in(1 - current, checkpoint, start, &earlier)?;
     let front = walk_in(current, checkpoint, between, &later)?;
-    let frozen = last_past(checkpoint, &earlier.entries);
+    let frozen = frozen_at(last_past(checkpoint, &earlier.entries), between.merge);
     Ok(Replay {
         entries: joined(checkpoint, earlier.entries, later.entries)?,
         merge: front.merge,

@@ -1,5 +1,6 @@
-use Rattle.std.proofs.Common.{◌∙◌, ap, refl, List}
-use Rattle.directory_meaning.specs.Bodies.{Numbered, last_of, past}
+use Rattle.std.proofs.Common.{refl}
+use Rattle.directory_meaning.specs.Bodies.{past}
+use Rattle.directory_reading.proofs.ReplayLemmas.{frozen_past}
 use Rattle.directory_reading.specs.Walking.{start_of}
 use Rattle.directory_reading.proofs.WalkLemmas.{Reads-append}
 use Rattle.directory_reading.proofs.replay.replay_both.Goals as goal
@@ -16,6 +17,7 @@ returns c =
       merged = refl;
       goes_to = refl;
       stays = refl;
-      last = c.last_past-frozen.ensures
-          ∙ ap (λ (l : List Numbered). last_of (past root.checkpoint l)) c.deref.ensures.value;
+      last = frozen_past root c.deref.result.now c.args.earlier.entries.items c.in_ok-between.between.merge
+          c.last_past.result c.frozen_at-frozen.result c.frozen_at-frozen.ensures c.last_past.ensures
+          c.deref.ensures.value c.in_ok-between.ensures.merges;
     }
