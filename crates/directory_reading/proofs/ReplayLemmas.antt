@@ -137,5 +137,8 @@ pub frozen_past : (root : PlainRoot) (lent entries : List Numbered) (merge : ℕ
 frozen_past root lent entries merge last frozen is ends same merges =
     is
     ∙ ap (λ (m : ℕ). option_map (λ entry. record { entry = entry; merge = m }) last) merges
-    ∙ ap (option_map (λ entry. record { entry = entry; merge = merge_after root.merge (map (λ e. e.1) (past
-    root.checkpoint entries)) })) (ends ∙ ap (λ (l : List Numbered). last_of (past root.checkpoint l)) same)
+    ∙ ap (option_map (λ entry. record {
+      entry = entry;
+      merge = merge_after root.merge (map (λ e. e.1) (past
+          root.checkpoint entries));
+    })) (ends ∙ ap (λ (l : List Numbered). last_of (past root.checkpoint l)) same)
