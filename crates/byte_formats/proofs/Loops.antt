@@ -13,7 +13,7 @@ use Rattle.byte_formats.specs.Format.{◌>>=◌, Format, Read, cons, many}
 abbrev pub with_front : {X : Type 0} → List X → Read (List X) → Read (List X)
 with_front front read = read >>= λ x. Ok (front ++ x.0, x.1)
 
-begins : {X : Type 0} (r : Read (List X)) → with_front [] r ≡ r
+pub begins : {X : Type 0} (r : Read (List X)) → with_front [] r ≡ r
 begins (Ok x) = refl
 begins (Err error) = refl
 
@@ -29,19 +29,19 @@ shift {X = X} front x (Ok y) = ap (λ (zs : List X). Ok (zs, y.1)) (sym (append_
 shift front x (Err error) = refl
 
 module _ {S X : Type 0} (item : S → Format X) (next : S → X → S) where
-  one_more : (front : List X) (s : S) (n : ℕ) (bytes : List ℕ) (x : X) (rest : List ℕ)
+  pub one_more : (front : List X) (s : S) (n : ℕ) (bytes : List ℕ) (x : X) (rest : List ℕ)
       → (item s).read bytes ≡ Ok (x, rest)
       → with_front front ((many item next s (suc n)).read bytes) ≡ with_front (front ++ x ∷ [])
       ((many item next (next s x) n).read rest)
   unfolding many
   one_more front s n bytes x rest e = rw e (shift front x ((many item next (next s x) n).read rest))
 
-  no_more : (front : List X) (s : S) (n : ℕ) (bytes : List ℕ) (error : FieldError) → (item s).read bytes ≡ Err error
+  pub no_more : (front : List X) (s : S) (n : ℕ) (bytes : List ℕ) (error : FieldError) → (item s).read bytes ≡ Err error
       → with_front front ((many item next s (suc n)).read bytes) ≡ Err error
   unfolding many
   no_more front s n bytes error e = rw e refl
 
-  none_left : (front : List X) (s : S) (bytes : List ℕ)
+  pub none_left : (front : List X) (s : S) (bytes : List ℕ)
       → with_front front ((many item next s 0).read bytes) ≡ Ok (front, bytes)
   unfolding many
   none_left front s bytes = ap (λ (zs : List X). Ok (zs, bytes)) (append-nil front)

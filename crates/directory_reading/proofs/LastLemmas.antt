@@ -1,13 +1,15 @@
 -- No entry may follow one whose number is the last that fits its field.
-use Rattle.std.proofs.Common.{◌≡◌, ◌-◌, ◌^◌, ◌<◌, ℕ, suc, Bool, true, false, ◌||◌, ◌==◌, nat_lt, List, [], ◌∷◌, drop, Option, Some, Ok, Err, refl, ap, length, get_or, arith}
+use Rattle.std.proofs.Common.{◌≡◌, ◌-◌, ◌^◌, ◌<◌, ℕ, suc, Bool, true, false, ◌||◌, ◌==◌, nat_lt, List, [], ◌∷◌}
+use Rattle.std.proofs.Common.{drop, Option, Some, Ok, Err, refl, ap, length, get_or, arith}
 use Rattle.std.proofs.lemmas.Bool.{eqb-true, ne_eqb}
 use Rattle.byteorder.specs.Endian.{big_number}
 use Rattle.docs_format.proofs.Digits.{IsBytes}
 use Rattle.docs_format.proofs.Fields.{wide_takes}
 use Rattle.docs_format.proofs.Keeping.{unkept}
-use Rattle.docs_format.specs.Reading.{keeping, kind_at, left_of, wide_at}
-use Rattle.docs_format.specs.declared.fault.FieldError.{FieldError}
-use Rattle.docs_format.specs.declared.fault.FieldError.TheVariants.{Invalid, Truncated}
+use Rattle.docs_format.specs.Reading.{keeping, kind_at, wide_at}
+use Rattle.byte_formats.specs.Format.{left_of}
+use Rattle.byte_formats.specs.declared.error.FieldError.{FieldError}
+use Rattle.byte_formats.specs.declared.error.FieldError.TheVariants.{Invalid, Truncated}
 use Rattle.journal_bodies.specs.Answers.{entry_of}
 use Rattle.journal_bodies.specs.EntryReading.{entry_at, is_expected}
 use Rattle.journal_bodies.specs.RootReading.{long_at}

@@ -1,19 +1,18 @@
 -- A field that is read is the field that was written, and what was written is read again.
-use Rattle.std.proofs.Common.{◌≡◌, ℕ, ℤ, pos, negsuc, ◌-◌, ◌^◌, ◌<◌, ◌≤◌, Bool, true, false, cond, nat_lt, ltb}
+use Rattle.std.proofs.Common.{◌≡◌, ℕ, ◌-◌, ◌^◌, ◌<◌, ◌≤◌, Bool, true, false, cond, nat_lt, ltb}
 use Rattle.std.proofs.Common.{List, ◌++◌, length, take, drop, Result, Ok, Err, refl, sym, ap, subst, ◌∙◌}
 use Rattle.std.proofs.Common.{append_assoc, arith}
-use Rattle.std.specs.Int.{w128, cast_signed, cast_unsigned}
 use Rattle.std.specs.Str.{is_utf8}
 use Rattle.std.proofs.lemmas.Bool.{and_parts, ltb-true, ltb-false, le-ltb}
-use Rattle.std.proofs.lemmas.Int.{of_z-to_z, to_z-of_z}
 use Rattle.std.proofs.lemmas.List.{take_at, drop_at, take-append-drop, length-append, length-take-le}
 use Rattle.byteorder.specs.Endian.{big_number, big_bytes}
 use Rattle.byteorder.specs.Numbers.{big_from-lt, big_from-take, big_number-reads_back, length-bytes_high_first}
 use Rattle.doc_model.specs.Uri.{is_uri}
-use Rattle.docs_format.specs.declared.fault.FieldError.{FieldError}
-use Rattle.docs_format.specs.declared.fault.FieldError.TheVariants.{Truncated, Invalid}
-use Rattle.docs_format.specs.Spelling.{count, number, text, is_decimal}
-use Rattle.docs_format.specs.Reading.{◌>>=◌, Read, keeping, wide_at, count_at, units_at, number_at, bytes_at}
+use Rattle.byte_formats.specs.declared.error.FieldError.{FieldError}
+use Rattle.byte_formats.specs.declared.error.FieldError.TheVariants.{Truncated, Invalid}
+use Rattle.docs_format.specs.Spelling.{count, text}
+use Rattle.byte_formats.specs.Format.{◌>>=◌, Read}
+use Rattle.docs_format.specs.Reading.{keeping, wide_at, count_at, bytes_at}
 use Rattle.docs_format.specs.Reading.{text_at, uri_at}
 use Rattle.docs_format.proofs.Digits.{IsBytes, IsBytes-drop, IsBytes-take, digits_back}
 use Rattle.docs_format.proofs.Keeping.{kept}
@@ -145,36 +144,3 @@ pub uri_again : (t rest : List ℕ) → length t < 2 ^ 32 → is_utf8 t ≡ true
     → uri_at (text t ++ rest) ≡ Ok (t, rest)
 unfolding uri_at
 uri_again t rest lt utf8 uri = kept is_uri text_at (text t ++ rest) (t, rest) (text_again t rest lt utf8) uri
-
--- ---- units
-
-pub number_takes : (bytes : List ℕ) (x : ℤ × List ℕ) → IsBytes bytes → number_at bytes ≡ Ok x
-    → Takes bytes (number x.0) x.1 × (is_decimal x.0 ≡ true)
-unfolding number_at units_at number
-number_takes bytes x fits e =
-    let k = kept_ok is_decimal units_at bytes x e in
-    let a = bind_ok (wide_at 16 bytes) (λ bits. Ok (cast_signed w128 bits.0, bits.1)) x k.0 in
-    let t = wide_takes 16 bytes a.0 fits a.1 in
-    let same : cast_unsigned w128 (cast_signed w128 a.0.0) ≡ a.0.0 = of_z-to_z w128 a.0.0 t.1 in
-    let made : ℤ × List ℕ = (cast_signed w128 a.0.0, a.0.1) in (
-      subst (λ (y : ℤ × List ℕ). Takes bytes (big_bytes 16 (cast_unsigned w128 y.0)) y.1) (ok_is made x a.2)
-          (subst (λ (n : ℕ). Takes bytes (big_bytes 16 n) a.0.1) (sym same) t.0),
-      k.1,
-    )
-
-unsigned_fits : (units : ℤ) → is_decimal units ≡ true
-    → (cast_unsigned w128 units < 256 ^ 16) × (cast_signed w128 (cast_unsigned w128 units) ≡ units)
-unsigned_fits (pos n) h =
-    let lt : n < 10 ^ 38 = ltb-true n (10 ^ 38) (and_parts true (ltb n (10 ^ 38)) h).1 in
-    (omega (arith, lt), to_z-of_z w128 (pos n) (record { sfits = omega (arith, lt) }))
-unsigned_fits (negsuc n) h =
-    let lt : n < 10 ^ 38 - 1 = ltb-true n (10 ^ 38 - 1) (and_parts (ltb n (10 ^ 38 - 1)) true h).0 in
-    (omega (arith, lt), to_z-of_z w128 (negsuc n) (record { sfits = omega (arith, lt) }))
-
-pub number_again : (units : ℤ) (rest : List ℕ) → is_decimal units ≡ true
-    → number_at (number units ++ rest) ≡ Ok (units, rest)
-unfolding number_at units_at number
-number_again units rest h =
-    let f = unsigned_fits units h in
-    kept is_decimal units_at (number units ++ rest) (units, rest)
-    (rw (wide_again 16 (cast_unsigned w128 units) rest f.0, f.1) refl) h

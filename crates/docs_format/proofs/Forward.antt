@@ -10,11 +10,13 @@ use Rattle.std.proofs.lemmas.List.{drop-append-le, length-append, length-drop, t
 use Rattle.byteorder.specs.Endian.{big_number}
 use Rattle.byteorder.specs.Numbers.{big_from-take}
 use Rattle.doc_model.specs.Uri.{is_uri}
-use Rattle.docs_format.specs.declared.fault.FieldError.TheVariants.{Truncated, Invalid}
+use Rattle.byte_formats.specs.declared.error.FieldError.TheVariants.{Truncated, Invalid}
 use Rattle.docs_format.specs.Spelling.{is_decimal}
-use Rattle.docs_format.specs.Reading.{◌>>=◌, Read, bytes_at, collection_at, collections_at, count_at}
+use Rattle.byte_formats.specs.Format.{◌>>=◌, Read}
+use Rattle.docs_format.specs.Reading.{bytes_at, collection_at, collections_at, count_at}
 use Rattle.docs_format.specs.Reading.{is_next}
-use Rattle.docs_format.specs.Reading.{keeping, kind_at, last_of, left_of, list_at}
+use Rattle.byte_formats.specs.Format.{left_of}
+use Rattle.docs_format.specs.Reading.{keeping, kind_at, last_of, list_at}
 use Rattle.docs_format.specs.Reading.{number_at, text_at, units_at, uri_at, wide_at}
 
 -- what is left, behind a field or from a fault on, is no more than there was

@@ -5,8 +5,9 @@ use Rattle.doc_model.specs.Documents.{PlainDocument, document_size}
 use Rattle.doc_model.specs.Tree.{is_among}
 use Rattle.doc_model.specs.declared.node.Node.{Node}
 use Rattle.doc_model.specs.declared.node.Node.TheVariants as node
-use Rattle.docs_format.specs.declared.fault.FieldError.TheVariants.{Truncated, Invalid}
-use Rattle.docs_format.specs.Reading.{◌>>=◌, Read, collections_at, count_at, document_at, items_at, kind_at, list_at}
+use Rattle.byte_formats.specs.declared.error.FieldError.TheVariants.{Truncated, Invalid}
+use Rattle.byte_formats.specs.Format.{◌>>=◌, Read}
+use Rattle.docs_format.specs.Reading.{collections_at, count_at, document_at, items_at, kind_at, list_at}
 use Rattle.docs_format.specs.Reading.{member_at, members_at, name_at, names, node_at, node_of, number_at, text_at}
 use Rattle.docs_format.specs.Reading.{sized_document_at, uri_at}
 use Rattle.docs_format.proofs.Forward.{Forward, IsForward, chosen_forward, collections_forward, count_forward}

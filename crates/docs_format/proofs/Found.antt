@@ -7,24 +7,24 @@ use Rattle.std.proofs.lemmas.Bool.{eqb-true, not-false, not-true}
 use Rattle.std.proofs.lemmas.List.{append-nil, nil_from_length}
 use Rattle.doc_model.specs.Documents.{PlainDocument, broken_rule, document_size}
 use Rattle.docs_format.specs.declared.fault.DocBytesBad.{DocBytesBad}
-use Rattle.docs_format.specs.declared.fault.FieldError.{FieldError}
-use Rattle.docs_format.specs.declared.fault.FieldError.TheVariants.{Invalid}
+use Rattle.byte_formats.specs.declared.error.FieldError.{FieldError}
+use Rattle.byte_formats.specs.declared.error.FieldError.TheVariants.{Invalid}
 use Rattle.docs_format.specs.Answers.{Decodes}
 use Rattle.docs_format.specs.Laws.{WhatIsReadIsSpelled}
 use Rattle.docs_format.specs.Spelling as spell
 use Rattle.docs_format.specs.Reading.{document_at}
 use Rattle.docs_format.specs.Reading.{document_of, sized_document_at}
 use Rattle.docs_format.specs.Reading.{placed, whole_of}
-use Rattle.docs_format.proofs.Takes.{document_takes}
+use Rattle.docs_format.proofs.Takes.{document_kept, document_takes}
 use Rattle.docs_format.proofs.Digits.{IsBytes}
 use Rattle.docs_format.proofs.Fields.{bind_ok, guard_ok, kept_ok}
-use Rattle.docs_format.proofs.Rules.{document_kept, only_size}
+use Rattle.docs_format.proofs.Rules.{only_size}
 
 -- what the bytes of a document are, and which rules it keeps
 pub read_is_spelled : WhatIsReadIsSpelled
 read_is_spelled bytes rest d fits e =
     let t = document_takes bytes (d, rest) fits e in
-    let k = document_kept bytes (d, rest) e in
+    let k = document_kept bytes (d, rest) fits e in
     record {
       spelled = t.0.parts;
       values = t.1;
@@ -47,7 +47,7 @@ sized_takes bytes x fits e =
     let a = kept_ok (λ d. not (large d)) document_at bytes x e in
     let t = document_takes bytes x fits a.0 in
     let small : large x.0 ≡ false = not-true (large x.0) a.1 in
-    let whole : is_none (broken_rule x.0) ≡ true = rw (only_size x.0 (document_kept bytes x a.0), small) refl in (
+    let whole : is_none (broken_rule x.0) ≡ true = rw (only_size x.0 (document_kept bytes x fits a.0), small) refl in (
       t.0.parts,
       record {
         rules = is_true (is_none (broken_rule x.0)) whole;
@@ -67,7 +67,7 @@ whole_takes bytes d fits e =
     let b = first_ok (not (eqb (length a.0.1) 0)) (Invalid (length a.0.1)) (sized a.0.0) d a.2 in
     let c = guard_ok (nat_lt (2 ^ 24) (document_size a.0.0)) (Invalid (length bytes)) a.0.0 d b.1 in
     let t = document_takes bytes a.0 fits a.1 in
-    let k = document_kept bytes a.0 a.1 in
+    let k = document_kept bytes a.0 fits a.1 in
     let whole : is_none (broken_rule a.0.0) ≡ true = rw (only_size a.0.0 k, c.0) refl in
     let nothing : a.0.1 ≡ [] =
     nil_from_length a.0.1 (eqb-true (length a.0.1) 0 (not-false (eqb (length a.0.1) 0) b.0)) in

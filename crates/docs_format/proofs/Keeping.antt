@@ -8,8 +8,9 @@ use Rattle.std.proofs.lemmas.List.{take_all, length-drop}
 use Rattle.byteorder.specs.Endian.{big_number}
 use Rattle.std.specs.Str.{IsUtf8, is_utf8}
 use Rattle.std.proofs.lemmas.Str.{IsUtf8-from_is_utf8, is_utf8-from_IsUtf8}
-use Rattle.docs_format.specs.declared.fault.FieldError.TheVariants.{Invalid}
-use Rattle.docs_format.specs.Reading.{Read, keeping, text_at, bytes_at, units_at, wide_at}
+use Rattle.byte_formats.specs.declared.error.FieldError.TheVariants.{Invalid}
+use Rattle.byte_formats.specs.Format.{Read}
+use Rattle.docs_format.specs.Reading.{keeping, text_at, bytes_at, units_at, wide_at}
 
 pub kept : {X : Type 0} (rule : X → Bool) (field_at : List ℕ → Read X) (bytes : List ℕ) (x : X × List ℕ)
     → field_at bytes ≡ Ok x → rule x.0 ≡ true → keeping rule field_at bytes ≡ Ok x

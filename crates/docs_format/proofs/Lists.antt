@@ -1,16 +1,15 @@
 -- Reading values one after the other.
 use Rattle.std.proofs.Common.{◌≡◌, ℕ, zero, suc, ◌-◌, ◌+◌, ◌≤◌, ◌<◌, Bool, true, List, [], ◌∷◌, ◌++◌, length}
 use Rattle.std.proofs.Common.{Ok, Err, refl, sym, ap, subst, ◌∙◌, append_assoc, arith}
-use Rattle.std.specs.List.{flat_map, list_all}
-use Rattle.std.proofs.lemmas.Bool.{and_from}
+use Rattle.std.specs.List.{flat_map}
 use Rattle.std.proofs.lemmas.List.{append-nil, length_push}
 use Rattle.std.proofs.lemmas.List.Concat.{flat_map-cons}
-use Rattle.docs_format.specs.declared.fault.DecodeError.{DecodeError}
-use Rattle.docs_format.specs.declared.fault.DecodeError.TheVariants as stop
-use Rattle.docs_format.specs.Answers.{Stops}
-use Rattle.docs_format.specs.Reading.{Read, list_at}
-use Rattle.docs_format.proofs.Digits.{IsBytes}
-use Rattle.docs_format.proofs.Fields.{bind_ok, ok_is, Takes, Takes-then}
+use Rattle.byte_formats.specs.declared.error.DecodeError.{DecodeError}
+use Rattle.byte_formats.specs.declared.error.DecodeError.TheVariants as stop
+use Rattle.byte_formats.specs.Answers.{Fails}
+use Rattle.byte_formats.specs.Format.{Read}
+use Rattle.docs_format.specs.Reading.{list_at}
+use Rattle.docs_format.proofs.Fields.{bind_ok, ok_is}
 
 -- ---- as a loop does
 
@@ -27,7 +26,7 @@ goes_on item_at before count i bytes x rest total lt h so_far =
 
 pub stops : {X : Type 0} (why : DecodeError) (item_at : List X → List ℕ → Read X) (before : List X) (count i : ℕ)
     (bytes : List ℕ) (total : Read (List X))
-    → i < count → Stops why (item_at before bytes) → list_at item_at before (count - i) bytes ≡ total → Stops why total
+    → i < count → Fails why (item_at before bytes) → list_at item_at before (count - i) bytes ≡ total → Fails why total
 unfolding list_at
 stops stop.Memory item_at before count i bytes total lt h so_far = tt
 stops (stop.Bad fault) item_at before count i bytes total lt h so_far =
@@ -69,33 +68,6 @@ module _ {X : Type 0} (item_at : List X → List ℕ → Read X) where
   list_keeps P each (suc n) before bytes x p e =
       let a = bind_ok (item_at before bytes) (λ item. list_at item_at (before ++ item.0 ∷ []) n item.1) x e in
       list_keeps P each n (before ++ a.0.0 ∷ []) a.0.1 x (each before bytes a.0 p a.1) a.2
-
-abbrev pub Listed : {X : Type 0} → (X → List ℕ) → (X → Bool) → ℕ → List X → List ℕ → List X × List ℕ → Type 0
-Listed {X = X} spelling fine n before bytes x =
-    (ys : List X) × (x.0 ≡ before ++ ys) × Takes bytes (flat_map spelling ys) x.1 × (length ys ≡ n) ×
-    (list_all fine ys ≡ true)
-
-module _ {X : Type 0} (item_at : List X → List ℕ → Read X) (spelling : X → List ℕ) (fine : X → Bool)
-    (each : (before : List X) (bytes : List ℕ) (x : X × List ℕ) → IsBytes bytes → item_at before bytes ≡ Ok x
-    → Takes bytes (spelling x.0) x.1 × (fine x.0 ≡ true)) where
-  pub list_takes : (n : ℕ) (before : List X) (bytes : List ℕ) (x : List X × List ℕ) → IsBytes bytes
-      → list_at item_at before n bytes ≡ Ok x → Listed spelling fine n before bytes x
-  unfolding list_at
-  list_takes zero before bytes x fits e =
-      subst (λ (y : List X × List ℕ). Listed spelling fine zero before bytes y) (ok_is (before, bytes) x e)
-      ([], sym (append-nil before), record { parts = refl; rest_fits = fits }, refl, refl)
-  list_takes (suc n) before bytes x fits e =
-      let a = bind_ok (item_at before bytes) (λ item. list_at item_at (before ++ item.0 ∷ []) n item.1) x e in
-      let first = each before bytes a.0 fits a.1 in
-      let rest = list_takes n (before ++ a.0.0 ∷ []) a.0.1 x first.0.rest_fits a.2 in
-      let whole : Takes bytes (spelling a.0.0 ++ flat_map spelling rest.0) x.1 =
-      Takes-then bytes (spelling a.0.0) a.0.1 (flat_map spelling rest.0) x.1 first.0 rest.2 in (
-        a.0.0 ∷ rest.0,
-        rest.1 ∙ append_assoc before (a.0.0 ∷ []) rest.0,
-        rw flat_map-cons whole,
-        ap suc rest.3,
-        and_from (fine a.0.0) (list_all fine rest.0) first.1 rest.4,
-      )
 
 -- ---- what was written
 

@@ -5,12 +5,13 @@ use Rattle.std.proofs.lemmas.Bool.{eqb-true, le-leb}
 use Rattle.std.proofs.lemmas.Bool.Decides.{nat_tests}
 use Rattle.doc_model.specs.declared.node.Node.{Node}
 use Rattle.doc_model.specs.declared.node.Node.TheVariants as node
-use Rattle.docs_format.specs.declared.fault.FieldError.{FieldError}
-use Rattle.docs_format.specs.declared.fault.FieldError.TheVariants.{Invalid}
-use Rattle.docs_format.specs.declared.fault.DecodeError.{DecodeError}
-use Rattle.docs_format.specs.declared.fault.DecodeError.TheVariants as stop
-use Rattle.docs_format.specs.Answers.{Stops}
-use Rattle.docs_format.specs.Reading.{◌>>=◌, Read, count_at, list_at, collection_at, collections_at, items_at, kind_at}
+use Rattle.byte_formats.specs.declared.error.FieldError.{FieldError}
+use Rattle.byte_formats.specs.declared.error.FieldError.TheVariants.{Invalid}
+use Rattle.byte_formats.specs.declared.error.DecodeError.{DecodeError}
+use Rattle.byte_formats.specs.declared.error.DecodeError.TheVariants as stop
+use Rattle.byte_formats.specs.Answers.{Fails}
+use Rattle.byte_formats.specs.Format.{◌>>=◌, Read}
+use Rattle.docs_format.specs.Reading.{count_at, list_at, collection_at, collections_at, items_at, kind_at}
 use Rattle.docs_format.specs.Reading.{last_of, member_at, members_at, node_at, node_of, number_at, text_at}
 use Rattle.docs_format.proofs.Fields.{bind_ok, ok_is}
 
@@ -34,12 +35,12 @@ unfolding members_at
 members_are value_at bytes n rest e = rw e refl
 
 pub stops_then : {X Y : Type 0} (why : DecodeError) (first : Result X FieldError) (f : X → Result Y FieldError)
-    → Stops why first → Stops why (first >>= f)
+    → Fails why first → Fails why (first >>= f)
 stops_then stop.Memory first f h = tt
 stops_then (stop.Bad fault) first f h = rw h refl
 
-pub stops_same : {X : Type 0} (why : DecodeError) (first second : Result X FieldError) → second ≡ first → Stops why first
-    → Stops why second
+pub stops_same : {X : Type 0} (why : DecodeError) (first second : Result X FieldError) → second ≡ first
+    → Fails why first → Fails why second
 stops_same stop.Memory first second e h = tt
 stops_same (stop.Bad fault) first second e h = e ∙ h
 
@@ -53,7 +54,8 @@ last_of-push (first ∷ next ∷ names) name = last_of-push (next ∷ names) nam
 differs : (a b : ℕ) → b < a → (a == b) ≡ false
 differs a b h = grind (arith, nat_tests)
 
-pub kind_stops : (why : DecodeError) (depth : ℕ) (bytes : List ℕ) → Stops why (kind_at bytes) → Stops why (node_at depth bytes)
+pub kind_stops : (why : DecodeError) (depth : ℕ) (bytes : List ℕ) → Fails why (kind_at bytes)
+    → Fails why (node_at depth bytes)
 unfolding node_at node_of
 kind_stops stop.Memory depth bytes h = tt
 kind_stops (stop.Bad fault) zero bytes h = rw h refl
@@ -104,7 +106,7 @@ module _ (bytes : List ℕ) (k : ℕ) (rest : List ℕ) (e : kind_at bytes ≡ O
   kind_deep depth (inr is) none = rw (none, e, is) refl
 
   pub stops_deep : (why : DecodeError) (left depth : ℕ) → (k ≡ 5) ⊎ (k ≡ 6) → left ≡ length bytes
-      → (depth ≡ 0) × (why ≡ stop.Bad (Invalid left)) → Stops why (node_at depth bytes)
+      → (depth ≡ 0) × (why ≡ stop.Bad (Invalid left)) → Fails why (node_at depth bytes)
   stops_deep why left depth kind all d = rw (d.1, all) (kind_deep depth kind d.0)
 
   pub kind_other : (depth : ℕ) → 7 ≤ k → node_at depth bytes ≡ Err (Invalid (length bytes))
@@ -120,60 +122,4 @@ module _ (bytes : List ℕ) (k : ℕ) (rest : List ℕ) (e : kind_at bytes ≡ O
       elim depth as (λ d. node_at d bytes ≡ Err (Invalid (length bytes))) [
         | zero ↦ rw (e, f0, f1, f2, f3, f4, f5, f6) refl
         | suc d ↦ rw (e, f0, f1, f2, f3, f4, f5, f6) refl
-      ]
-
--- ---- what was read, by its kind
-
-chosen : {X : Type 0} (b : Bool) (x y z : X) → cond b x y ≡ z → ((b ≡ true) × (x ≡ z)) ⊎ ((b ≡ false) × (y ≡ z))
-chosen true x y z e = inl (refl, e)
-chosen false x y z e = inr (refl, e)
-
--- what holds of each kind of node that is read holds of the one that is
-module _ (array_at object_at : List ℕ → Read Node) (k : ℕ) (rest : List ℕ) (P : ℕ → Node × List ℕ → Type 0)
-    (null : P 0 (node.Null, rest)) (no : P 1 (node.Bool false, rest)) (yes : P 2 (node.Bool true, rest))
-    (number : (n : ℤ × List ℕ) → number_at rest ≡ Ok n → P 3 (node.Num n.0, n.1))
-    (string : (t : List ℕ × List ℕ) → text_at rest ≡ Ok t → P 4 (node.Text t.0, t.1))
-    (array : (x : Node × List ℕ) → array_at rest ≡ Ok x → P 5 x)
-    (object : (x : Node × List ℕ) → object_at rest ≡ Ok x → P 6 x) where
-  plain : (kind : ℕ) (n : Node) (x : Node × List ℕ) → P kind (n, rest)
-      → (let r : Read Node = Ok (n, rest) in r) ≡ Ok x → P kind x
-  plain kind n x p e = subst (λ y. P kind y) (ok_is (n, rest) x e) p
-
-  a_number : (x : Node × List ℕ) → (number_at rest >>= λ n. Ok (node.Num n.0, n.1)) ≡ Ok x → P 3 x
-  a_number x e =
-      let a = bind_ok (number_at rest) (λ n. Ok (node.Num n.0, n.1)) x e in
-      subst (λ y. P 3 y) (ok_is (node.Num a.0.0, a.0.1) x a.2) (number a.0 a.1)
-
-  a_string : (x : Node × List ℕ) → (text_at rest >>= λ t. Ok (node.Text t.0, t.1)) ≡ Ok x → P 4 x
-  a_string x e =
-      let a = bind_ok (text_at rest) (λ t. Ok (node.Text t.0, t.1)) x e in
-      subst (λ y. P 4 y) (ok_is (node.Text a.0.0, a.0.1) x a.2) (string a.0 a.1)
-
-  at_kind : (kind : ℕ) (x : Node × List ℕ) → eqb k kind ≡ true → P kind x → P k x
-  at_kind kind x e p = subst (λ j. P j x) (sym (eqb-true k kind e)) p
-
-  pub by_kind : (x : Node × List ℕ) → node_of array_at object_at (k ∷ rest) ≡ Ok x → P k x
-  unfolding node_of kind_at
-  by_kind x e =
-      elim (chosen (eqb k 0) _ _ _ e) [
-        | inl a ↦ at_kind 0 x a.0 (plain 0 node.Null x null a.1)
-        | inr a ↦ elim (chosen (eqb k 1) _ _ _ a.1) [
-          | inl b ↦ at_kind 1 x b.0 (plain 1 (node.Bool false) x no b.1)
-          | inr b ↦ elim (chosen (eqb k 2) _ _ _ b.1) [
-            | inl c ↦ at_kind 2 x c.0 (plain 2 (node.Bool true) x yes c.1)
-            | inr c ↦ elim (chosen (eqb k 3) _ _ _ c.1) [
-              | inl d ↦ at_kind 3 x d.0 (a_number x d.1)
-              | inr d ↦ elim (chosen (eqb k 4) _ _ _ d.1) [
-                | inl f ↦ at_kind 4 x f.0 (a_string x f.1)
-                | inr f ↦ elim (chosen (eqb k 5) _ _ _ f.1) [
-                  | inl g ↦ at_kind 5 x g.0 (array x g.1)
-                  | inr g ↦ elim (chosen (eqb k 6) _ _ _ g.1) [
-                    | inl h ↦ at_kind 6 x h.0 (object x h.1)
-                    | inr h ↦ absurd (cc (h.1))
-                  ]
-                ]
-              ]
-            ]
-          ]
-        ]
       ]

@@ -8,12 +8,13 @@ use Rattle.std.proofs.lemmas.List.{append-nil, length-append}
 use Rattle.doc_model.specs.Documents.{PlainDocument, document_size}
 use Rattle.docs_format.specs.Answers.{Decodes, IsPlaced}
 use Rattle.docs_format.specs.Laws.{BeginningsEndEarly, FaultsStay, MoreIsTooMany}
-use Rattle.docs_format.specs.Reading.{◌>>=◌, Read, document_at, document_of, left_of, placed, whole_of}
-use Rattle.docs_format.specs.declared.fault.FieldError.{FieldError}
-use Rattle.docs_format.specs.declared.fault.FieldError.TheVariants.{Truncated, Invalid}
+use Rattle.byte_formats.specs.Format.{◌>>=◌, Read, left_of}
+use Rattle.docs_format.specs.Reading.{document_at, document_of, placed, whole_of}
+use Rattle.byte_formats.specs.declared.error.FieldError.{FieldError}
+use Rattle.byte_formats.specs.declared.error.FieldError.TheVariants.{Truncated, Invalid}
 use Rattle.docs_format.specs.declared.fault.DocBytesBad.{DocBytesBad}
 use Rattle.docs_format.specs.declared.fault.DocBytesBad.TheVariants as bad
-use Rattle.docs_format.proofs.Again.{spelled_again}
+use Rattle.docs_format.proofs.Takes.{spelled_again}
 use Rattle.docs_format.proofs.Fields.{ok_is}
 use Rattle.docs_format.proofs.Forward.{Forward, Stays, Within}
 use Rattle.docs_format.proofs.ForwardNodes.{document_forward}

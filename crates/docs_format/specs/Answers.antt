@@ -8,19 +8,6 @@ use Rattle.std.specs.Ordering.{nat_cmp}
 use Rattle.doc_model.specs.Tree.{is_among}
 use Rattle.docs_format.specs.declared.fault.DocBytesBad.{DocBytesBad}
 use Rattle.docs_format.specs.declared.fault.DocBytesBad.TheVariants as bad
-use Rattle.docs_format.specs.declared.fault.FieldError.{FieldError}
-use Rattle.docs_format.specs.declared.fault.DecodeError.{DecodeError}
-use Rattle.docs_format.specs.declared.fault.DecodeError.TheVariants as stop
-
--- the error of reading, or want of memory
-abbrev pub Stops : {Y : Type 0} → DecodeError → Result Y FieldError → Type 0
-Stops stop.Memory read = Unit {0}
-Stops (stop.Bad fault) read = read ≡ Err fault
-
--- the result is what reading gives, seen through `view`, unless memory ran out
-abbrev pub Gives : {X Y : Type 0} → (X → Y) → Result X DecodeError → Result Y FieldError → Type 0
-Gives view (Ok x) read = read ≡ Ok (view x)
-Gives view (Err why) read = Stops why read
 
 -- the value that reading gives, or the place where the bytes break a rule, unless memory ran out
 abbrev pub Decodes : {X : Type 0} → Result X DocBytesBad → Result X ℕ → Type 0

@@ -6,28 +6,15 @@ use Rattle.std.specs.Int.{w128, cast_signed}
 use Rattle.std.specs.Ordering.{nat_cmp, is_lt}
 use Rattle.std.specs.Str.{is_utf8}
 use Rattle.byteorder.specs.Endian.{big_number}
+use Rattle.byte_formats.specs.Format.{◌>>=◌, Read}
 use Rattle.doc_model.specs.Documents.{PlainDocument, document_size}
 use Rattle.doc_model.specs.Tree.{is_among}
 use Rattle.doc_model.specs.Uri.{is_name, is_uri}
 use Rattle.doc_model.specs.declared.node.Node.{Node}
 use Rattle.doc_model.specs.declared.node.Node.TheVariants as node
-use Rattle.docs_format.specs.declared.fault.FieldError.{FieldError}
-use Rattle.docs_format.specs.declared.fault.FieldError.TheVariants.{Truncated, Invalid}
+use Rattle.byte_formats.specs.declared.error.FieldError.{FieldError}
+use Rattle.byte_formats.specs.declared.error.FieldError.TheVariants.{Truncated, Invalid}
 use Rattle.docs_format.specs.Spelling.{is_decimal}
-
--- how many bytes are left from the first byte of the truncated or invalid field on
-abbrev pub left_of : FieldError → ℕ
-left_of (Truncated left) = left
-left_of (Invalid left) = left
-
--- the first field of some bytes and the bytes after it, or its error
-abbrev pub Read : Type 0 → Type 0
-Read X = Result (X × List ℕ) FieldError
-
-infixl 10 ◌>>=◌
-abbrev pub ◌>>=◌ : {X Y : Type 0} → Result X FieldError → (X → Result Y FieldError) → Result Y FieldError
-(Ok x) >>= f = f x
-(Err fault) >>= f = Err fault
 
 -- a field that keeps a rule; one that breaks it is invalid at its first byte
 abbrev pub keeping : {X : Type 0} → (X → Bool) → (List ℕ → Read X) → List ℕ → Read X

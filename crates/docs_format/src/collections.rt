@@ -1,9 +1,9 @@
 ghost use Rattle.std.specs.Prelude.{◌≡◌};
-ghost use Rattle.docs_format.specs.Answers.{Gives};
+ghost use Rattle.byte_formats.specs.Answers.{Gives};
 ghost use Rattle.docs_format.specs.Reading.{collection_at, collections_at, is_next};
 
-use crate::fault::{DecodeError, FieldError};
 use crate::reader::Reader;
+use byte_formats::{DecodeError, FieldError};
 use doc_model::{MAX_NAME_BYTES, Text, Texts};
 use std::alloc::Global;
 

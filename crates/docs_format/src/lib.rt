@@ -10,9 +10,11 @@ mod reader;
 mod reading;
 mod writing;
 
-pub use fault::{DecodeError, DocBytesBad, FieldError};
+pub use byte_formats::{DecodeError, FieldError};
+pub use fault::DocBytesBad;
 pub use laws::{
-    beginnings_end_early, documents_are_read_again, faults_stay, more_is_too_many,
+    beginnings_end_early, documents_are_read_again, documents_are_spelled_so,
+    documents_decode_well, faults_stay, more_is_too_many, nodes_decode_well,
     what_is_read_is_spelled,
 };
 pub use reader::Reader;

@@ -1,10 +1,11 @@
 ghost use Rattle.std.specs.Prelude.{◌≡◌, ◌∷◌, [], ◌++◌, not, List, ℕ, IfOk, OnOk};
 ghost use Rattle.doc_model.specs.Tree.{is_among};
-ghost use Rattle.docs_format.specs.Answers.{Gives, HasNames};
+ghost use Rattle.byte_formats.specs.Answers.{Gives};
+ghost use Rattle.docs_format.specs.Answers.{HasNames};
 ghost use Rattle.docs_format.specs.Reading.{name_at};
 
-use crate::fault::{DecodeError, FieldError};
 use crate::reader::Reader;
+use byte_formats::{DecodeError, FieldError};
 use std::alloc::AllocError;
 use std::collections::BTreeMap;
 

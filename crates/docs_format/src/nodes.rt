@@ -1,12 +1,13 @@
 ghost use Rattle.std.specs.Prelude.{◌≡◌, ◌+◌, ◌∷◌, [], ◌++◌, List, ℕ, IfErr, IfOk};
-ghost use Rattle.docs_format.specs.Answers.{Gives, HasNames};
-ghost use Rattle.docs_format.specs.declared.fault.FieldError.TheVariants.{Invalid};
-ghost use Rattle.docs_format.specs.declared.fault.DecodeError.TheVariants.{Bad};
+ghost use Rattle.byte_formats.specs.Answers.{Gives};
+ghost use Rattle.docs_format.specs.Answers.{HasNames};
+ghost use Rattle.byte_formats.specs.declared.error.FieldError.TheVariants.{Invalid};
+ghost use Rattle.byte_formats.specs.declared.error.DecodeError.TheVariants.{Bad};
 ghost use Rattle.docs_format.specs.Reading.{items_at, member_at, members_at, names, node_at};
 
-use crate::fault::{DecodeError, FieldError};
 use crate::names::name_at;
 use crate::reader::Reader;
+use byte_formats::{DecodeError, FieldError};
 use doc_model::{Members, Node, Nodes, Text};
 use std::alloc::Global;
 use std::collections::BTreeMap;

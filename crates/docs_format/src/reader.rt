@@ -1,8 +1,9 @@
-ghost use Rattle.docs_format.specs.Answers.{Gives};
+ghost use Rattle.byte_formats.specs.Answers.{Gives};
+ghost use Rattle.byte_formats.specs.Lawful.{IsBytes};
 ghost use Rattle.docs_format.specs.Reading.{bytes_at, count_at, kind_at, number_at, text_at, units_at, uri_at};
 ghost use Rattle.docs_format.specs.Reading.{wide_at};
 
-use crate::fault::{DecodeError, FieldError};
+use byte_formats::{DecodeError, FieldError};
 use byteorder::{BigEndian, ByteOrder};
 use doc_model::{Dec, is_uri};
 use std::marker::Model;
@@ -14,6 +15,11 @@ use std::marker::Model;
 pub struct Reader<'a> {
     rest: &'a [u8],
 }
+
+/// What the type of bytes says of them.
+fn are_bytes(bytes: &[u8])
+    ensures { IsBytes bytes.now }
+{}
 
 impl<'a> Model for Reader<'a> {
     ghost use Rattle.std.specs.Prelude.{List, ℕ};
@@ -44,6 +50,13 @@ impl<'a> Reader<'a> {
         ensures { result ≡ length self.now }
     {
         self.rest.len()
+    }
+
+    /// That each number is a byte. Costs nothing.
+    pub fn are_bytes(&self)
+        ensures { IsBytes self.now }
+    {
+        are_bytes(self.rest);
     }
 
     /// Reads a kind of one byte.

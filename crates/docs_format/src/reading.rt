@@ -1,14 +1,17 @@
 ghost use Rattle.std.specs.Prelude.{◌≡◌, ◌≤◌, length, IfErr, IfOk, Ok};
 ghost use Rattle.doc_model.specs.Documents.{PlainDocument};
 ghost use Rattle.doc_model.specs.Documents as model;
-ghost use Rattle.docs_format.specs.Answers.{Decodes, Gives, IsPlaced};
-ghost use Rattle.docs_format.specs.Reading.{document_at, document_of, left_of, place_of, sized_document_at, whole_of};
+ghost use Rattle.byte_formats.specs.Answers.{Gives};
+ghost use Rattle.docs_format.specs.Answers.{Decodes, IsPlaced};
+ghost use Rattle.byte_formats.specs.Format.{left_of};
+ghost use Rattle.docs_format.specs.Reading.{document_at, document_of, place_of, sized_document_at, whole_of};
 ghost use Rattle.docs_format.specs.Spelling.{Spells};
 
 use crate::collections::collections_at;
-use crate::fault::{DecodeError, DocBytesBad, FieldError};
+use crate::fault::DocBytesBad;
 use crate::nodes::node_at;
 use crate::reader::Reader;
+use byte_formats::{DecodeError, FieldError};
 use doc_model::{DocRefusal, Document, MAX_DOCUMENT_DEPTH, Node, Text, Texts};
 use std::alloc::Global;
 
@@ -58,6 +61,7 @@ pub fn document(alloc: Global, reader: &mut Reader) -> Result<Document, DecodeEr
     ensures { Gives (λ d. (d, reader.new)) result (sized_document_at reader.old) }
 {
     let left = reader.left();
+    reader.are_bytes();
     let parts = parts_at(alloc, reader)?;
     match Document::new(alloc, parts.uri, parts.collections, parts.root) {
         Ok(document) => Ok(document),

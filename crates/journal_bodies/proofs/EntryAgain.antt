@@ -16,10 +16,11 @@ use Rattle.doc_model.specs.declared.op.Op.TheVariants.{Put, Remove}
 use Rattle.docs_format.specs.Reading.{document_at, kind_at, uri_at}
 use Rattle.docs_format.specs.Spelling as spell
 use Rattle.docs_format.specs.Spelling.{Spells, are_values, count, document, has_values as has_tree_values, text, texts}
-use Rattle.docs_format.proofs.Again as docs
 use Rattle.docs_format.proofs.Fields.{count_again, uri_again}
 use Rattle.docs_format.proofs.Keeping.{kept}
 use Rattle.docs_format.proofs.Lists.{Follows, list_again}
+use Rattle.docs_format.proofs.Rules as docs
+use Rattle.docs_format.proofs.Takes as taken
 use Rattle.journal_bodies.specs.Entries.{HasValues, IsEntry, SpellsEntry, entry, expect, is_expect, op}
 use Rattle.journal_bodies.specs.EntryReading.{entry_at, expect_at, fresh_at, is_expected, op_at, ops_at, put_at, said_at}
 use Rattle.journal_bodies.specs.Roots.{listed, long}
@@ -55,7 +56,7 @@ put_again : (before : List Op) (d : PlainDocument) (e : Option ℕ) (rest : List
 unfolding put_at
 put_again before d e rest m =
     let both = and_parts (is_none (broken_rule d)) (are_values d) m.values in
-    let keeps = docs.keeps d (is_true _ both.0) in
+    let keeps = (docs.keeps d (is_true _ both.0)).0 in
     let vs = and_parts (is_utf8 d.uri && list_all is_utf8 d.collections) (has_tree_values d.root) both.1 in
     let us = and_parts (is_utf8 d.uri) (list_all is_utf8 d.collections) vs.0 in
     let after_uri : List ℕ = texts d.collections ++ (spell.node d.root ++ rest) in
@@ -66,7 +67,7 @@ put_again before d e rest m =
     ap (fresh_at (map uri_of before)) regrouped
     ∙ fresh_again (map uri_of before) d.uri after_uri us.0 keeps.uri m.fresh in
     let read : document_at (document d ++ rest) ≡ Ok (d, rest) =
-    docs.spelled_again (document d) rest d
+    taken.spelled_again (document d) rest d
     (record { rules = is_true _ both.0; values = is_true _ both.1; spelled = refl }) in
     let fits : small before d ≡ true = le-leb (sum_by op_size before + document_size d) (2 ^ 24) m.sizes in
     rw fresh (kept (small before) document_at (document d ++ rest) (d, rest) read fits)

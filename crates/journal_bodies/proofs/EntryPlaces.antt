@@ -3,8 +3,9 @@ use Rattle.std.proofs.Common.{◌≡◌, ℕ, List, [], ◌++◌, length, Option
 use Rattle.std.specs.Prelude.{IfOk, IsTrue}
 use Rattle.std.proofs.lemmas.List.{append-nil}
 use Rattle.doc_model.specs.declared.entry.Entry.{Entry}
-use Rattle.docs_format.specs.Answers.{Decodes, Stops}
-use Rattle.docs_format.specs.declared.fault.DecodeError.{DecodeError}
+use Rattle.byte_formats.specs.Answers.{Fails}
+use Rattle.docs_format.specs.Answers.{Decodes}
+use Rattle.byte_formats.specs.declared.error.DecodeError.{DecodeError}
 use Rattle.docs_format.proofs.Digits.{IsBytes}
 use Rattle.journal_bodies.specs.Answers.{IsWithin, alone, entry_of}
 use Rattle.journal_bodies.specs.Entries.{SpellsEntry}
@@ -17,7 +18,7 @@ use Rattle.journal_bodies.proofs.Places.{ends_early, is_within, whole_again, who
 use Rattle.journal_bodies.proofs.Truths.{from_true, is_true}
 
 pub entry_within : (expected : Option ℕ) (bytes : List ℕ) (why : DecodeError) → IsBytes bytes
-    → Stops why (alone (entry_at expected bytes)) → IsWithin (length bytes) why
+    → Fails why (alone (entry_at expected bytes)) → IsWithin (length bytes) why
 entry_within expected bytes why fits e = is_within spell_entry (KeepsEntry expected) bytes (entry_at expected bytes) why
     (entry_reads expected bytes fits) e
 

@@ -13,14 +13,15 @@ use Rattle.doc_model.specs.declared.entry.Entry.{Entry}
 use Rattle.doc_model.specs.declared.entry.Entry.TheVariants.{Commit, Forget}
 use Rattle.doc_model.specs.declared.op.Op.{Op}
 use Rattle.doc_model.specs.declared.op.Op.TheVariants.{Put, Remove}
-use Rattle.docs_format.specs.Reading.{◌>>=◌, Read, count_at, document_at, keeping, kind_at, uri_at}
+use Rattle.byte_formats.specs.Format.{◌>>=◌, Read}
+use Rattle.docs_format.specs.Reading.{count_at, document_at, keeping, kind_at, uri_at}
 use Rattle.docs_format.specs.Spelling.{are_values, count, document, text}
 use Rattle.docs_format.proofs.Digits.{IsBytes}
 use Rattle.docs_format.proofs.Fields.{Takes, kept_ok, uri_takes}
 use Rattle.docs_format.proofs.Forward.{uri_forward}
 use Rattle.docs_format.proofs.ForwardNodes.{document_forward}
-use Rattle.docs_format.proofs.Rules.{KeepsFields, document_kept, only_size}
-use Rattle.docs_format.proofs.Takes.{document_takes}
+use Rattle.docs_format.proofs.Rules.{KeepsFields, only_size}
+use Rattle.docs_format.proofs.Takes.{document_kept, document_takes}
 use Rattle.journal_bodies.specs.Entries.{HasValues, IsEntry, entry, expect, is_expect, op}
 use Rattle.journal_bodies.specs.EntryReading.{entry_at, expect_at, fresh_at, is_expected, op_at, ops_at, put_at, said_at}
 use Rattle.journal_bodies.specs.RootReading.{long_at}
@@ -104,7 +105,7 @@ document_reads bytes u fits e =
     from_takes document (IsRead u.0) bytes (document_at bytes)
     (λ x f.
     let t = document_takes bytes x fits f in
-    (t.0, (document_kept bytes x f, t.1, document_uri bytes u x e f)))
+    (t.0, (document_kept bytes x fits f, t.1, document_uri bytes u x e f)))
     (document_forward [] bytes).within
 
 put_reads : (before : List Op) (bytes : List ℕ) → IsBytes bytes → Reads document (IsPut before) bytes (put_at before bytes)

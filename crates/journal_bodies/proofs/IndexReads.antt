@@ -8,9 +8,10 @@ use Rattle.std.proofs.lemmas.List.Folds.{list_all-append, list_any-append}
 use Rattle.doc_model.specs.Queries.{Index, index_eq, is_indexed, is_index_list, kind_eq, no_index_twice}
 use Rattle.doc_model.specs.declared.indexes.Kind.{Kind}
 use Rattle.doc_model.specs.declared.indexes.Kind.TheVariants as kind
-use Rattle.docs_format.specs.Reading.{◌>>=◌, count_at, keeping, kind_at, list_at, text_at}
+use Rattle.byte_formats.specs.Format.{◌>>=◌}
+use Rattle.docs_format.specs.Reading.{count_at, keeping, kind_at, list_at, text_at}
 use Rattle.docs_format.specs.Spelling.{count, text}
-use Rattle.docs_format.specs.declared.fault.FieldError.TheVariants.{Invalid}
+use Rattle.byte_formats.specs.declared.error.FieldError.TheVariants.{Invalid}
 use Rattle.docs_format.proofs.Digits.{IsBytes}
 use Rattle.docs_format.proofs.Fields.{Takes, bind_ok, kept_ok, ok_is}
 use Rattle.docs_format.proofs.Lists.{list_counts, list_keeps}

@@ -9,7 +9,8 @@ use Rattle.doc_model.specs.Tree.{is_among}
 use Rattle.doc_model.specs.Uri.{is_uri}
 use Rattle.doc_model.specs.declared.op.Op.{Op}
 use Rattle.doc_model.specs.declared.op.Op.TheVariants.{Put, Remove}
-use Rattle.docs_format.specs.Reading.{◌>>=◌, count_at, document_at, keeping, kind_at, list_at, text_at, uri_at}
+use Rattle.byte_formats.specs.Format.{◌>>=◌}
+use Rattle.docs_format.specs.Reading.{count_at, document_at, keeping, kind_at, list_at, text_at, uri_at}
 use Rattle.docs_format.proofs.Fields.{bind_ok, kept_ok, ok_is}
 use Rattle.docs_format.proofs.Lists.{list_counts, list_keeps}
 use Rattle.journal_bodies.specs.EntryReading.{expect_at, fresh_at, op_at, ops_at, put_at}

@@ -3,12 +3,13 @@ use Rattle.std.proofs.Common.{◌≡◌, ℕ, ◌-◌, ◌<◌, ◌≤◌, ◌==
 use Rattle.std.proofs.Common.{refl, sym, ap, subst, ◌∙◌, append_assoc, arith}
 use Rattle.std.proofs.lemmas.Bool.{eqb-true}
 use Rattle.std.proofs.lemmas.List.{append-nil, length-append, nil_from_length}
-use Rattle.docs_format.specs.Answers.{Decodes, Stops}
-use Rattle.docs_format.specs.Reading.{Read, left_of}
-use Rattle.docs_format.specs.declared.fault.FieldError.{FieldError}
-use Rattle.docs_format.specs.declared.fault.FieldError.TheVariants.{Invalid}
-use Rattle.docs_format.specs.declared.fault.DecodeError.{DecodeError}
-use Rattle.docs_format.specs.declared.fault.DecodeError.TheVariants as stop
+use Rattle.byte_formats.specs.Answers.{Fails}
+use Rattle.docs_format.specs.Answers.{Decodes}
+use Rattle.byte_formats.specs.Format.{Read, left_of}
+use Rattle.byte_formats.specs.declared.error.FieldError.{FieldError}
+use Rattle.byte_formats.specs.declared.error.FieldError.TheVariants.{Invalid}
+use Rattle.byte_formats.specs.declared.error.DecodeError.{DecodeError}
+use Rattle.byte_formats.specs.declared.error.DecodeError.TheVariants as stop
 use Rattle.docs_format.proofs.Fields.{ok_is}
 use Rattle.journal_bodies.specs.Answers.{IsWithin, alone, placed}
 use Rattle.docs_format.specs.declared.fault.DocBytesBad.{DocBytesBad}
@@ -32,7 +33,7 @@ alone_ok {X = X} (Ok y) x e = go (length y.1 == 0) refl e
 
 -- the bytes left from a fault on are among those that there are
 pub is_within : {X : Type 0} (spell : X → List ℕ) (P : X → Type 0) (bytes : List ℕ) (read : Read X) (why : DecodeError)
-    → Reads spell P bytes read → Stops why (alone read) → IsWithin (length bytes) why
+    → Reads spell P bytes read → Fails why (alone read) → IsWithin (length bytes) why
 is_within spell P bytes read stop.Memory r e = tt
 is_within spell P bytes (Err fault) (stop.Bad other) r e =
     let same : fault ≡ other = cc in subst (λ (f : FieldError). left_of f ≤ length bytes) same r

@@ -6,11 +6,12 @@ use Rattle.doc_model.specs.Documents.{PlainDocument, document_size}
 use Rattle.doc_model.specs.Operations.{op_size, uri_of}
 use Rattle.doc_model.specs.Tree.{is_among}
 use Rattle.doc_model.specs.declared.op.Op.{Op}
-use Rattle.docs_format.specs.Answers.{Stops}
-use Rattle.docs_format.specs.Reading.{◌>>=◌, Read, collections_at, document_at, keeping, node_at, sized_document_at, uri_at}
-use Rattle.docs_format.specs.declared.fault.FieldError.TheVariants.{Invalid}
-use Rattle.docs_format.specs.declared.fault.DecodeError.{DecodeError}
-use Rattle.docs_format.specs.declared.fault.DecodeError.TheVariants as stop
+use Rattle.byte_formats.specs.Answers.{Fails}
+use Rattle.byte_formats.specs.Format.{◌>>=◌, Read}
+use Rattle.docs_format.specs.Reading.{collections_at, document_at, keeping, node_at, sized_document_at, uri_at}
+use Rattle.byte_formats.specs.declared.error.FieldError.TheVariants.{Invalid}
+use Rattle.byte_formats.specs.declared.error.DecodeError.{DecodeError}
+use Rattle.byte_formats.specs.declared.error.DecodeError.TheVariants as stop
 use Rattle.docs_format.proofs.Fields.{bind_ok, kept_ok, ok_is}
 use Rattle.docs_format.proofs.Keeping.{kept, unkept}
 use Rattle.journal_bodies.specs.EntryReading.{fresh_at, put_at}
@@ -40,7 +41,7 @@ module _ (before : List Op) (bytes : List ℕ) (uri : List ℕ × List ℕ)
   unfolding put_at
   put_is = rw fresh refl
 
-  pub put_stops : (why : DecodeError) → Stops why (sized_document_at bytes) → Stops why (put_at before bytes)
+  pub put_stops : (why : DecodeError) → Fails why (sized_document_at bytes) → Fails why (put_at before bytes)
   unfolding sized_document_at
   put_stops stop.Memory s = tt
   put_stops (stop.Bad fault) s = put_is ∙ go (document_at bytes) s

@@ -2,8 +2,9 @@
 use Rattle.std.proofs.Common.{◌≡◌, ℕ, List, [], ◌++◌, length, Result, Ok, Err, sym, ap, ◌∙◌}
 use Rattle.std.specs.Prelude.{IfOk}
 use Rattle.std.proofs.lemmas.List.{append-nil}
-use Rattle.docs_format.specs.Answers.{Decodes, Stops}
-use Rattle.docs_format.specs.declared.fault.DecodeError.{DecodeError}
+use Rattle.byte_formats.specs.Answers.{Fails}
+use Rattle.docs_format.specs.Answers.{Decodes}
+use Rattle.byte_formats.specs.declared.error.DecodeError.{DecodeError}
 use Rattle.docs_format.proofs.Digits.{IsBytes}
 use Rattle.journal_bodies.specs.Answers.{IsWithin, alone, root_of}
 use Rattle.journal_bodies.specs.Laws.{RootsAreRead, RootsEndEarly}
@@ -14,7 +15,7 @@ use Rattle.journal_bodies.proofs.Places.{ends_early, is_within, whole_again, who
 use Rattle.journal_bodies.proofs.RootAgain.{root_again, spelled_again}
 use Rattle.journal_bodies.proofs.RootReads.{KeepsRoot, root_reads}
 
-pub root_within : (bytes : List ℕ) (why : DecodeError) → IsBytes bytes → Stops why (alone (root_at bytes))
+pub root_within : (bytes : List ℕ) (why : DecodeError) → IsBytes bytes → Fails why (alone (root_at bytes))
     → IsWithin (length bytes) why
 root_within bytes why fits e = is_within root KeepsRoot bytes (root_at bytes) why (root_reads bytes fits) e
 

@@ -5,9 +5,10 @@ use Rattle.std.specs.List.{flat_map}
 use Rattle.std.specs.Str.{is_utf8}
 use Rattle.std.proofs.lemmas.Grind.{flat_map-append}
 use Rattle.std.proofs.lemmas.List.{append-nil, length-append, length-take, length_push}
-use Rattle.docs_format.specs.Reading.{◌>>=◌, Read, bytes_at, count_at, keeping, kind_at, left_of, list_at, text_at, wide_at}
+use Rattle.byte_formats.specs.Format.{◌>>=◌, Read, left_of}
+use Rattle.docs_format.specs.Reading.{bytes_at, count_at, keeping, kind_at, list_at, text_at, wide_at}
 use Rattle.docs_format.specs.Spelling.{count, text}
-use Rattle.docs_format.specs.declared.fault.FieldError.TheVariants.{Truncated, Invalid}
+use Rattle.byte_formats.specs.declared.error.FieldError.TheVariants.{Truncated, Invalid}
 use Rattle.docs_format.proofs.Digits.{IsBytes}
 use Rattle.docs_format.proofs.Fields.{Takes, Takes-then, bind_ok, count_takes, guard_ok, kept_ok, text_takes, wide_takes}
 use Rattle.docs_format.proofs.Forward.{Within, count_forward, text_forward, wide_forward}

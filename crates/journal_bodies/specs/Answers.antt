@@ -8,13 +8,13 @@ use Rattle.doc_model.specs.Operations.{op_size, uri_of}
 use Rattle.doc_model.specs.declared.entry.Entry.{Entry}
 use Rattle.doc_model.specs.declared.op.Op.{Op}
 use Rattle.docs_format.specs.Answers.{HasNames}
-use Rattle.docs_format.specs.Reading.{◌>>=◌, Read, left_of}
+use Rattle.byte_formats.specs.Format.{◌>>=◌, Read, left_of}
 use Rattle.docs_format.specs.declared.fault.DocBytesBad.{DocBytesBad}
 use Rattle.docs_format.specs.declared.fault.DocBytesBad.TheVariants as bad
-use Rattle.docs_format.specs.declared.fault.FieldError.{FieldError}
-use Rattle.docs_format.specs.declared.fault.DecodeError.{DecodeError}
-use Rattle.docs_format.specs.declared.fault.DecodeError.TheVariants as stop
-use Rattle.docs_format.specs.declared.fault.FieldError.TheVariants.{Invalid}
+use Rattle.byte_formats.specs.declared.error.FieldError.{FieldError}
+use Rattle.byte_formats.specs.declared.error.DecodeError.{DecodeError}
+use Rattle.byte_formats.specs.declared.error.DecodeError.TheVariants as stop
+use Rattle.byte_formats.specs.declared.error.FieldError.TheVariants.{Invalid}
 use Rattle.journal_bodies.specs.EntryReading.{entry_at}
 use Rattle.journal_bodies.specs.RootReading.{root_at}
 use Rattle.journal_bodies.specs.Roots.{PlainRoot, has}

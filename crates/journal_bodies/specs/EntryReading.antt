@@ -8,7 +8,8 @@ use Rattle.doc_model.specs.declared.entry.Entry.{Entry}
 use Rattle.doc_model.specs.declared.entry.Entry.TheVariants.{Commit, Forget}
 use Rattle.doc_model.specs.declared.op.Op.{Op}
 use Rattle.doc_model.specs.declared.op.Op.TheVariants.{Put, Remove}
-use Rattle.docs_format.specs.Reading.{◌>>=◌, Read, count_at, document_at, keeping, kind_at, list_at, uri_at}
+use Rattle.byte_formats.specs.Format.{◌>>=◌, Read}
+use Rattle.docs_format.specs.Reading.{count_at, document_at, keeping, kind_at, list_at, uri_at}
 use Rattle.journal_bodies.specs.RootReading.{long_at}
 
 -- what an operation expects

@@ -6,8 +6,9 @@ use Rattle.doc_model.specs.Queries.{Index, is_indexed}
 use Rattle.doc_model.specs.declared.indexes.Kind.{Kind}
 use Rattle.doc_model.specs.declared.indexes.Kind.TheVariants as kind
 use Rattle.doc_model.specs.declared.settings.Settings.{Settings}
-use Rattle.docs_format.specs.Reading.{◌>>=◌, Read, count_at, keeping, kind_at, list_at, text_at, wide_at}
-use Rattle.docs_format.specs.declared.fault.FieldError.TheVariants.{Invalid}
+use Rattle.byte_formats.specs.Format.{◌>>=◌, Read}
+use Rattle.docs_format.specs.Reading.{count_at, keeping, kind_at, list_at, text_at, wide_at}
+use Rattle.byte_formats.specs.declared.error.FieldError.TheVariants.{Invalid}
 use Rattle.journal_bodies.specs.Roots.{PlainRoot, files_of, has}
 use Rattle.journal_bodies.specs.declared.root.PartFiles.{PartFiles}
 use Rattle.journal_bodies.specs.declared.root_reading.RootNumbers.{RootNumbers}

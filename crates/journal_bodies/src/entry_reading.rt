@@ -1,6 +1,7 @@
 ghost use Rattle.std.specs.Prelude.{◌≡◌, length, ℕ, IfErr, IfOk, IsTrue, Ok};
 ghost use Rattle.doc_model.specs.declared.entry.Entry as model;
-ghost use Rattle.docs_format.specs.Answers.{Decodes, Gives, IsPlaced};
+ghost use Rattle.byte_formats.specs.Answers.{Gives};
+ghost use Rattle.docs_format.specs.Answers.{Decodes, IsPlaced};
 ghost use Rattle.docs_format.specs.Reading.{keeping};
 ghost use Rattle.journal_bodies.specs.Answers.{alone, entry_of};
 ghost use Rattle.journal_bodies.specs.Entries.{SpellsEntry};

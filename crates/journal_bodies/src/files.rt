@@ -1,7 +1,7 @@
 //! The numbers of files, each used once.
 
 ghost use Rattle.std.specs.Prelude.{◌≡◌, ◌∷◌, [], ◌++◌, not, List, ℕ, IfOk, OnOk};
-ghost use Rattle.docs_format.specs.Answers.{Gives};
+ghost use Rattle.byte_formats.specs.Answers.{Gives};
 ghost use Rattle.journal_bodies.specs.Answers.{HasFiles};
 ghost use Rattle.journal_bodies.specs.RootReading.{file_at};
 ghost use Rattle.journal_bodies.specs.Roots.{has};

@@ -1,6 +1,6 @@
 ghost use Rattle.std.specs.Prelude.{◌≡◌};
 ghost use Rattle.doc_model.specs.Queries.{is_indexed};
-ghost use Rattle.docs_format.specs.Answers.{Gives};
+ghost use Rattle.byte_formats.specs.Answers.{Gives};
 ghost use Rattle.journal_bodies.specs.RootReading.{index_at, indexes_at, settings_at, type_at};
 
 use doc_model::{Indexes, Kind, Settings, Text};

@@ -1,7 +1,7 @@
 ghost use Rattle.std.specs.Prelude.{◌≡◌, ◌∷◌, [], ◌++◌, ◌||◌, ◌==◌, nat_lt, List, ℕ, Option, IfOk};
 ghost use Rattle.doc_model.specs.declared.op.Op as model_op;
 ghost use Rattle.doc_model.specs.declared.op.Op.TheVariants as op_kind;
-ghost use Rattle.docs_format.specs.Answers.{Gives};
+ghost use Rattle.byte_formats.specs.Answers.{Gives};
 ghost use Rattle.docs_format.specs.Reading.{keeping, kind_at};
 ghost use Rattle.journal_bodies.specs.Answers.{HasOps};
 ghost use Rattle.journal_bodies.specs.EntryReading.{expect_at, op_at, ops_at, put_at};

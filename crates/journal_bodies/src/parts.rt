@@ -1,6 +1,6 @@
 ghost use Rattle.std.specs.Prelude.{◌≡◌, ◌∷◌, [], ◌++◌, List, ℕ, IfOk};
 ghost use Rattle.std.specs.List.{flat_map};
-ghost use Rattle.docs_format.specs.Answers.{Gives};
+ghost use Rattle.byte_formats.specs.Answers.{Gives};
 ghost use Rattle.journal_bodies.specs.Answers.{HasFiles};
 ghost use Rattle.journal_bodies.specs.RootReading.{part_at, parts_at, removed_at};
 ghost use Rattle.journal_bodies.specs.Roots.{files_of};

@@ -1,5 +1,6 @@
 ghost use Rattle.std.specs.Prelude.{◌≡◌, ◌≤◌, nat_le, length, IfErr, IfOk, Ok};
-ghost use Rattle.docs_format.specs.Answers.{Decodes, Gives, IsPlaced};
+ghost use Rattle.byte_formats.specs.Answers.{Gives};
+ghost use Rattle.docs_format.specs.Answers.{Decodes, IsPlaced};
 ghost use Rattle.docs_format.specs.Reading.{keeping};
 ghost use Rattle.journal_bodies.specs.Answers.{alone, root_of};
 ghost use Rattle.journal_bodies.specs.RootReading.{long_at, numbers_at, root_at};

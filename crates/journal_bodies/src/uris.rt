@@ -2,7 +2,8 @@
 
 ghost use Rattle.std.specs.Prelude.{◌≡◌, ◌∷◌, [], ◌++◌, not, List, ℕ, IfOk, OnOk};
 ghost use Rattle.doc_model.specs.Tree.{is_among};
-ghost use Rattle.docs_format.specs.Answers.{Gives, HasNames};
+ghost use Rattle.byte_formats.specs.Answers.{Gives};
+ghost use Rattle.docs_format.specs.Answers.{HasNames};
 ghost use Rattle.journal_bodies.specs.EntryReading.{fresh_at};
 
 use docs_format::{DecodeError, FieldError, Reader};

@@ -2,7 +2,8 @@ use Rattle.std.proofs.Common.{◌∙◌, ap, List, [], ℤ, inl, inr, Ok, ℕ, a
 use Rattle.std.proofs.lemmas.Result.{err_from_is_err_and}
 use Rattle.doc_model.specs.declared.node.Node.{Node}
 use Rattle.doc_model.specs.declared.node.Node.TheVariants as node
-use Rattle.docs_format.specs.Reading.{◌>>=◌, Read, items_at, list_at, member_at, members_at, node_at, number_at}
+use Rattle.byte_formats.specs.Format.{◌>>=◌, Read}
+use Rattle.docs_format.specs.Reading.{items_at, list_at, member_at, members_at, node_at, number_at}
 use Rattle.docs_format.specs.Reading.{text_at}
 use Rattle.docs_format.proofs.Lists.{goes_on, stops, ends}
 use Rattle.docs_format.proofs.Parts.{items_are, members_are, stops_same, stops_then, kind_stops, kind_null}
