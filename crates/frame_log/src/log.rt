@@ -156,6 +156,7 @@ impl Log {
         ensures answer { ReviveAnswers D.faults self.old self.new disk.old disk.new result }
         ensures frames { BringsBack D.Disk self.old self.new disk.old disk.new result }
         ensures trimmed { OnOk result (IsTrimmed self.new (D.seen disk.new) (D.may_leave disk.new)) }
+        ensures gate { IsGateUnknown self.new → IsGateUnknown self.old }
         ensures disk { KeepsToLog D.Disk self.new disk.old disk.new }
     {
         self.shut(disk)?;
@@ -171,6 +172,7 @@ impl Log {
         ensures frames { Shuts D.Disk self.old self.new disk.old disk.new }
         ensures disk { KeepsToLog D.Disk self.new disk.old disk.new }
         ensures shut { OnOk result (self.new.state ≢ GateUnknown) }
+        ensures gate { IsGateUnknown self.new → IsGateUnknown self.old }
         ensures down { IfErr result (λ refusal. (refusal ≡ Fault) × IsDown self.new) }
         ensures place { (file_of self.new ≡ file_of self.old) × (end_of self.new ≡ end_of self.old) }
         ensures cause { HasCause (D.faults disk.old) (D.faults disk.new) result }

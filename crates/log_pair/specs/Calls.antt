@@ -5,7 +5,7 @@ use Rattle.disk_model.specs.Logs.{Image, CrashImages}
 use Rattle.disk_model.specs.Stretches.{Since}
 use Rattle.disk_model.specs.declared.disk.Disk
 use Rattle.frame_log.specs.Calls.{TrimsFrames}
-use Rattle.frame_log.specs.LogStates.{file_of, end_of, IsUp, IsTrimmed}
+use Rattle.frame_log.specs.LogStates.{file_of, end_of, IsGateUnknown, IsTrimmed, IsUp}
 use Rattle.frame_log.specs.declared.log.Log.{Log}
 use Rattle.frame_log.specs.declared.refusal.LogRefusal.{LogRefusal}
 use Rattle.frame_log.specs.declared.refusal.LogRefusal.TheVariants.{Down, Long, Fault}
@@ -16,6 +16,11 @@ use Rattle.log_pair.specs.declared.pair.LogPair.{LogPair}
 -- the log keeps its number and the place of its last gate
 abbrev pub KeepsPlace : Log → Log → Type 0
 KeepsPlace old new = (file_of new ≡ file_of old) × (end_of new ≡ end_of old)
+
+-- no gate has become unknown
+abbrev pub KeepsGates : LogPair → LogPair → Type 0
+KeepsGates old new = (IsGateUnknown (current_of new) → IsGateUnknown (current_of old))
+    × (IsGateUnknown (other_of new) → IsGateUnknown (other_of old))
 
 module _ {D : Type 0} (faults : D → ℕ) (old new : LogPair) (before after : D) where
   -- only a fault refuses a revive, and then a log is down

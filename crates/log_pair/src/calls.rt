@@ -2,7 +2,8 @@
 
 ghost use Rattle.std.specs.Prelude.{◌≡◌, length, OnOk};
 ghost use Rattle.frame_log.specs.Calls.{AppendAnswers, ResetAnswers};
-ghost use Rattle.log_pair.specs.Calls.{AddsToCurrent, BringsBoth, EmptiesOther, PairReviveAnswers, TrimsOther};
+ghost use Rattle.log_pair.specs.Calls.{AddsToCurrent, BringsBoth, EmptiesOther, KeepsGates, PairReviveAnswers};
+ghost use Rattle.log_pair.specs.Calls.{TrimsOther};
 ghost use Rattle.log_pair.specs.PairStates.{current_of, other_of, AreTrimmed, AreWithin};
 ghost use Rattle.log_pair.specs.Sparing.{KeepsToPair};
 
@@ -57,6 +58,7 @@ impl LogPair {
         ensures answer { PairReviveAnswers D.faults self.old self.new disk.old disk.new result }
         ensures frames { BringsBoth D.Disk self.old self.new disk.old disk.new result }
         ensures trimmed { OnOk result (AreTrimmed self.new (D.seen disk.new) (D.may_leave disk.new)) }
+        ensures gates { KeepsGates self.old self.new }
         ensures disk { KeepsToPair D.Disk self.new disk.old disk.new }
     {
         self.first.revive(disk)?;
