@@ -50,8 +50,9 @@ pub poor_used : (s : Status) → s ≡ status.Memory → s ≢ status.Usage
 poor_used s is used = absurd (cc)
 
 -- what lending ends in isn't `usage`, where what was done meanwhile doesn't
-lends_used : {A : Type 0} (Does : A → A → Status → Type 0) (Represents : A → Type 0) (before now : ℕ) (old new : Handed A)
-    (given : A) (told : Option A) (result : Status) → ((after : A) (s : Status) → Does given after s → s ≢ status.Usage)
+lends_used : {A : Type 0} (Does : A → A → Status → Type 0) (Represents : A → Type 0) (before now : ℕ)
+    (old new : Handed A) (given : A) (told : Option A) (result : Status)
+    → ((after : A) (s : Status) → Does given after s → s ≢ status.Usage)
     → Lends Does Represents before now old new given told result → result ≢ status.Usage
 lends_used Does Represents before now old new given told result used lends is =
     let earlier : lends.earlier ≢ status.Usage = used lends.returned lends.earlier lends.does in
@@ -75,7 +76,7 @@ module _ {W D Y P I O F B : Type 0} (disk : Disk.Ghosts D) (yard : Yard.Ghosts Y
       elim makes.makes [ inl made ↦ absurd (cc) | inr refuses ↦ refused_used refuses.why (sym refuses.ends ∙ is) ]
 
   serves_used : (before after : Store D Y) (given back : Client I O P) (result : Status)
-      → ServesStore disk source sink before after given back result → result ≢ status.Usage
+      → ServesStore disk yard source sink before after given back result → result ≢ status.Usage
   serves_used before after given back result serves is =
       elim serves.serves [
         | inl attends ↦ ended_used attends.session.how (sym attends.ends ∙ is)
@@ -85,7 +86,7 @@ module _ {W D Y P I O F B : Type 0} (disk : Disk.Ghosts D) (yard : Yard.Ghosts Y
   client_used : (old new : W) (before after : Store D Y) (result : Status)
       → ServesClient disk yard source sink world old new before after result → result ≢ status.Usage
   client_used old new before after result (inl served) is =
-      lends_used (ServesStore disk source sink before after) (λ _. Unit {0}) (world.faults old) (world.faults new)
+      lends_used (ServesStore disk yard source sink before after) (λ _. Unit {0}) (world.faults old) (world.faults new)
       (world.clients old) (world.clients new) served.given served.told result
       (λ back s. serves_used before after served.given back s) served.lends is
   client_used old new before after result (inr none) is = absurd (cc)
@@ -100,7 +101,7 @@ module _ {W D Y P I O F B : Type 0} (disk : Disk.Ghosts D) (yard : Yard.Ghosts Y
         | inr none ↦ absurd (cc none.ends)
       ]
 
-  checks_used : (done : List ℕ) (before after : Store D Y) (result : Status) → Checks disk done before after result
+  checks_used : (done : List ℕ) (before after : Store D Y) (result : Status) → Checks disk yard done before after result
       → result ≢ status.Usage
   checks_used done before after result checks is =
       elim checks.checks [
@@ -112,8 +113,8 @@ module _ {W D Y P I O F B : Type 0} (disk : Disk.Ghosts D) (yard : Yard.Ghosts Y
       → ChecksIn disk yard source sink world done directory old new result → result ≢ status.Usage
   checks_in_used done directory old new result checks is =
       elim checks.checks [
-        | inl stored ↦ lends_used (Checks disk done) (IsInDirectory disk yard world directory new) (world.faults old)
-            (world.faults new) (world.stores old) (world.stores new) stored.given stored.told result
+        | inl stored ↦ lends_used (Checks disk yard done) (IsInDirectory disk yard world directory new)
+            (world.faults old) (world.faults new) (world.stores old) (world.stores new) stored.given stored.told result
             (λ after s. checks_used done stored.given after s) stored.lends is
         | inr none ↦ absurd (cc none.ends)
       ]

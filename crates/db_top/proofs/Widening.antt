@@ -20,7 +20,8 @@ rose_over before mid late now earlier later rose = omega arith
 
 module _ {A : Type 0} (Does : A → A → Status → Type 0) (Represents : A → Type 0) (before mid late now : ℕ)
     (earlier : before ≤ mid) (later : late ≤ now) (old new : Handed A) where
-  lends_over : (given : A) (told : Option A) (result : Status) → Lends Does Represents mid late old new given told result
+  lends_over : (given : A) (told : Option A) (result : Status)
+      → Lends Does Represents mid late old new given told result
       → Lends Does Represents before now old new given told result
   lends_over given told result is = record {
     returned = is.returned;
@@ -49,9 +50,9 @@ module _ {W D Y P I O F B : Type 0} (disk : Disk.Ghosts D) (yard : Yard.Ghosts Y
   serves_client_over earlier later before behind (inl is) = inl (record {
     given = is.given;
     told = is.told;
-    lends = subst₂ (λ (o n : Handed (Client I O P)). Lends (ServesStore disk source sink store back) (λ _. Unit {0})
-        (world.faults old) (world.faults new) o n is.given is.told result) before (sym behind)
-        (lends_over (ServesStore disk source sink store back) (λ _. Unit {0}) (world.faults old) (world.faults mid)
+    lends = subst₂ (λ (o n : Handed (Client I O P)). Lends (ServesStore disk yard source sink store back)
+        (λ _. Unit {0}) (world.faults old) (world.faults new) o n is.given is.told result) before (sym behind)
+        (lends_over (ServesStore disk yard source sink store back) (λ _. Unit {0}) (world.faults old) (world.faults mid)
         (world.faults late) (world.faults new) earlier later (world.clients mid) (world.clients late) is.given is.told
         result is.lends);
   })

@@ -1,5 +1,6 @@
 -- What `init` does with the store of a directory.
 use Rattle.std.specs.Prelude.{◌≡◌, ◌⊎◌, ◌≤◌, IfSome, IsSome}
+use Rattle.disk_model.specs.Files.{Files}
 use Rattle.disk_model.specs.Logs.{Image}
 use Rattle.disk_model.specs.declared.disk.Disk
 use Rattle.disk_model.specs.declared.world.Store.{Store}
@@ -9,15 +10,15 @@ use Rattle.db_top.specs.declared.status.Status.TheVariants as status
 use Rattle.doc_engine.specs.Opening.{KeepsUntilCreated, RefusesCreating}
 use Rattle.doc_engine.specs.declared.refusal.OpenWhy.{OpenWhy}
 use Rattle.doc_meaning.specs.History.{BaseSettings, empty_base}
-use Rattle.journal_meaning.specs.Directories.{HasNoRoot}
-use Rattle.journal_meaning.specs.Shown.{Shows}
+use Rattle.directory_meaning.specs.Directories.{HasNoRoot}
+use Rattle.directory_meaning.specs.Shown.{Shows}
 
 module _ {D : Type 0} (disk : Disk.Ghosts D) (settings : BaseSettings) where
-  -- a directory without a root was made, and each image shows the empty base of the settings
+  -- a directory without a root was made, and whatever files are kept, each image shows the empty base of the settings
   pub record HasMade (image : Image) (after : D) : Type 0 where
     pub none : HasNoRoot image
     pub told : IsSome (disk.seen after)
-    pub shows : (c : Image) → disk.may_leave after c → Shows c (empty_base settings)
+    pub shows : (files : Files) (c : Image) → disk.may_leave after c → Shows files c (empty_base settings)
 
   -- a directory wasn't made, for this reason
   pub record RefusesToMake (before after : D) (result : Status) : Type 0 where

@@ -62,13 +62,13 @@ module _ {W D Y P I O F B : Type 0} (disk : Disk.Ghosts D) (yard : Yard.Ghosts Y
   -- the store of a directory was handed out and opened or not, and it was put back; `done` is the text of what it
   -- holds. Or the world failed. No client was handed out
   pub record ChecksIn (done : List ℕ) (directory : List ℕ) (old new : W) (result : Status) : Type 0 where
-    pub checks : LendsStore (Checks disk done) directory old new result ⊎ LendsNoStore old new result
+    pub checks : LendsStore (Checks disk yard done) directory old new result ⊎ LendsNoStore old new result
     pub clients : world.clients new ≡ world.clients old
 
   -- a client was handed out, served with a store or not, and put back; or the world failed, and the store is as it was
   abbrev pub ServesClient : W → W → Store D Y → Store D Y → Status → Type 0
   ServesClient old new store store' result =
-      LendsClient (ServesStore disk source sink store store') old new result
+      LendsClient (ServesStore disk yard source sink store store') old new result
       ⊎ ((store' ≡ store)
       × HandsNothing (world.faults old) (world.faults new) (world.clients old) (world.clients new) result)
 

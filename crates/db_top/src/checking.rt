@@ -36,7 +36,7 @@ pub(crate) fn check_directory<W: World>(
 
 // Opens a store, says what its database holds, and closes it.
 fn check<D: Disk, Y: Yard>(alloc: Global, store: Store<D, Y>) -> (Store<D, Y>, Line, Status)
-    ensures { Checks D.Disk result.1.bytes store result.0 result.2 }
+    ensures { Checks D.Disk Y.Yard result.1.bytes store result.0 result.2 }
 {
     match Engine::open(alloc, store.disk, store.yard) {
         Ok(engine) => {

@@ -1,12 +1,12 @@
 //! Lines that are printed whole.
 
-ghost use Rattle.std.specs.Prelude.{[], ◌≡◌, ◌++◌, ◌+◌, ◌≤◌, length};
-ghost use Rattle.std.specs.FinMap.{len};
+ghost use Rattle.std.specs.Prelude.{[], ℕ, ◌≡◌, ◌++◌, ◌+◌, ◌≤◌, length};
 ghost use Rattle.std.specs.Fmt.{decimal};
-ghost use Rattle.db_top.specs.Checking.{summary_text};
+ghost use Rattle.db_top.specs.Checking.{summary_of};
 ghost use Rattle.db_top.specs.Statuses.{text_of};
 ghost use Rattle.db_top.specs.declared.status.Status.TheVariants.{Damaged};
-ghost use Rattle.doc_engine.specs.EngineState.{view_of};
+ghost use Rattle.doc_engine.specs.EngineState.{SeesSince};
+ghost use Rattle.doc_meaning.specs.History.{History};
 ghost use Rattle.transcript.specs.Texts.{file_text};
 
 use arrayvec::ArrayString;
@@ -19,8 +19,7 @@ pub(crate) type Line = ArrayString<192>;
 
 // The line of a snapshot.
 pub(crate) fn summary(seen: Snapshot<'_>) -> Line
-    ensures { let view = view_of seen.entry in
-        result.bytes ≡ summary_text view.front view.merge (len view.documents) }
+    ensures { (merge : ℕ) (h : History) → SeesSince seen.entry merge h → result.bytes ≡ summary_of merge h }
 {
     let mut line = Line::new();
     put(&mut line, "ok front ", seen.stamp());

@@ -67,7 +67,7 @@ fn attend<R, D: Disk, Y: Yard, I: Source, O: Sink, P: Port>(
     store: Store<D, Y>,
     client: &mut Client<I, O, P>,
 ) -> (Store<D, Y>, Status)
-    ensures { ServesStore D.Disk I.Source O.Sink store result.0 client.old client.new result.1 }
+    ensures { ServesStore D.Disk Y.Yard I.Source O.Sink store result.0 client.old client.new result.1 }
 {
     match Engine::open(alloc, store.disk, store.yard) {
         Ok(engine) => {

@@ -8,14 +8,14 @@ use Rattle.doc_model.specs.declared.op.Op.{Op}
 use Rattle.doc_engine.specs.EngineState.{IsReadStateOf, ReadState}
 use Rattle.doc_meaning.proofs.EntryLemmas.{merge_after_push}
 use Rattle.doc_meaning.proofs.HistoryLemmas.{latest_with_commit}
-use Rattle.doc_meaning.specs.History.{History, after_ops, front, latest}
+use Rattle.doc_meaning.specs.History.{History, after_ops, front, latest, merge}
 use Rattle.doc_meaning.specs.Laws.{with_commit}
 use Rattle.doc_meaning.specs.Replies.{commit_reply, differs, first_twice, last_timestamp}
 use Rattle.doc_meaning.specs.declared.replies.CommitReply.TheVariants.{Entered}
-use Rattle.journal_meaning.proofs.EntryLemmas.{front_push}
+use Rattle.directory_meaning.proofs.EntryLemmas.{front_push}
 
 -- a commit that names no URI twice and agrees, while there is room, is entered
-pub reply_entered : (held : ReadState) (h : History) (ops : List Op) (end : ℕ) → IsReadStateOf held h
+pub reply_entered : (held : ReadState) (h : History) (ops : List Op) (end : ℕ) → IsReadStateOf held (merge h) h
     → first_twice [] (map uri_of ops) ≡ None → find (differs held.documents) ops ≡ None
     → end < 2 ^ 62 → held.front < last_timestamp
     → Entered (held.front + 1) ≡ commit_reply (nat_le (2 ^ 62) end) h ops
@@ -28,9 +28,10 @@ reply_entered held h ops end is once agrees room early =
     rw (once, live, full, last, at) refl
 
 -- the history with the commit has its operations' database
-pub goes_on : (held new : ReadState) (h : History) (ops : List Op) → IsReadStateOf held h → new.front ≡ held.front + 1
-    → new.merge ≡ held.merge → new.settings ≡ held.settings
-    → new.documents ≡ after_ops (held.front + 1) ops held.documents → IsReadStateOf new (with_commit h ops)
+pub goes_on : (held new : ReadState) (h : History) (ops : List Op) → IsReadStateOf held (merge h) h
+    → new.front ≡ held.front + 1 → new.merge ≡ held.merge → new.settings ≡ held.settings
+    → new.documents ≡ after_ops (held.front + 1) ops held.documents
+    → IsReadStateOf new (merge (with_commit h ops)) (with_commit h ops)
 goes_on held new h ops is fronts merges settings documents = record {
   front = omega (arith, fronts, is.front, front_push h (Commit ops));
   merge = merges ∙ is.merge ∙ sym (merge_after_push h.base.merge h.entries (Commit ops));

@@ -7,7 +7,7 @@ use Rattle.frame_log.specs.LogStates.{end_of}
 use Rattle.journal.specs.JournalStates.{current_log}
 use Rattle.journal.specs.declared.journal.Journal.{Journal}
 use Rattle.journal_bodies.specs.Entries.{HasValues, entry}
-use Rattle.journal_meaning.proofs.LengthLemmas.{commit_is_short, commit_length}
+use Rattle.directory_meaning.proofs.LengthLemmas.{commit_is_short, commit_length}
 
 pub is_short : (journal : Journal) (number : ℕ) (ops : List Op) → HasValues (Commit ops)
     → IsShort journal number ops

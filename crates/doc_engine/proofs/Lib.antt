@@ -7,6 +7,7 @@ pub mod Appending
 pub mod Entering
 pub mod Refusing
 pub mod Opened
+pub mod Begun
 pub mod Created
 pub mod Lengths
 pub mod Reading

@@ -1,5 +1,5 @@
 -- An engine whose live documents are the same is the same.
-use Rattle.std.proofs.Common.{◌≡◌, ◌<◌, ◌+◌, ◌^◌, ℕ, None, sym, subst, Result, Ok, Err, IfErr}
+use Rattle.std.proofs.Common.{◌≡◌, ◌<◌, ◌+◌, ◌^◌, ℕ, None, Some, sym, subst, Result, Ok, Err, IfErr}
 use Rattle.std.proofs.Math.Logic.{∥∥₁_prop}
 use Rattle.std.proofs.Props.{props}
 use Rattle.disk_model.specs.declared.disk.Disk
@@ -12,8 +12,8 @@ use Rattle.doc_engine.specs.declared.engine.Engine.{Engine}
 use Rattle.doc_engine.specs.declared.refusal.CommitRefusal.{CommitRefusal}
 use Rattle.doc_engine.specs.declared.refusal.CommitRefusal.TheVariants as refusal
 use Rattle.doc_meaning.specs.History.{Database}
-use Rattle.frame_log.specs.LogStates.{IsGateUnknown}
-use Rattle.journal.specs.JournalStates.{AreUp, AreWithin, current_log}
+use Rattle.journal.specs.JournalStates.{AreUp, AreWithin}
+use Rattle.journal.specs.declared.broken_off.BrokenOff.TheVariants.{Entry}
 
 unless_fault : {Same : Type 0} (why : CommitRefusal) → Same → UnlessFault why Same
 unless_fault (refusal.Down faults) same = same
@@ -32,12 +32,12 @@ module _ {D Y F B : Type 0} {of_disk : Disk.Ghosts D} {of_yard : Yard.Ghosts Y F
     {of_build : Build.Ghosts B F} (engine : Engine D Y F B of_disk of_yard of_file of_build) where
   stamped : (within : AreWithin engine.journal (of_disk.seen engine.disk))
       (up : ∥ (engine.down ≡ None → AreUp engine.journal) ∥₁)
-      (early : IsGateUnknown (current_log engine.journal) → engine.front + 1 < 2 ^ 64)
+      (early : engine.journal.broken_off ≡ Some Entry → engine.front + 1 < 2 ^ 64)
       (stamps : CreatedBy engine.front engine.live)
       → record engine { within = within; up = up; early = early; stamps = stamps } ≡ engine
   stamped within up early stamps =
       let inside : IsProp (AreWithin engine.journal (of_disk.seen engine.disk)) = hlevel props in
-      let small : IsProp (IsGateUnknown (current_log engine.journal) → engine.front + 1 < 2 ^ 64) = hlevel props in
+      let small : IsProp (engine.journal.broken_off ≡ Some Entry → engine.front + 1 < 2 ^ 64) = hlevel props in
       let created : IsProp (CreatedBy engine.front engine.live) = hlevel props in
       λ i. record engine {
         within = inside within engine.within i;
@@ -49,7 +49,7 @@ module _ {D Y F B : Type 0} {of_disk : Disk.Ghosts D} {of_yard : Yard.Ghosts Y F
   pub unchanged : (live : Database) → live ≡ engine.live
       → (within : AreWithin engine.journal (of_disk.seen engine.disk))
       (up : ∥ (engine.down ≡ None → AreUp engine.journal) ∥₁)
-      (early : IsGateUnknown (current_log engine.journal) → engine.front + 1 < 2 ^ 64)
+      (early : engine.journal.broken_off ≡ Some Entry → engine.front + 1 < 2 ^ 64)
       (stamps : CreatedBy engine.front live)
       → record engine { live = live; within = within; up = up; early = early; stamps = stamps } ≡ engine
   unchanged live same within up early =

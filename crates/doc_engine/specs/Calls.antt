@@ -9,7 +9,7 @@ use Rattle.disk_model.specs.declared.yard.Yard
 use Rattle.doc_model.specs.declared.entry.Entry.TheVariants.{Commit}
 use Rattle.doc_model.specs.declared.op.Op.{Op}
 use Rattle.doc_engine.specs.Checks.{IsShort, end_with}
-use Rattle.doc_engine.specs.EngineState.{EngineState, IsAt, disk_of, journal_of, state_of, yard_of}
+use Rattle.doc_engine.specs.EngineState.{IsAt, disk_of, down_since, front_of, journal_of, yard_of}
 use Rattle.doc_engine.specs.Representing.{ShowsWith, RepresentsHistory}
 use Rattle.doc_engine.specs.declared.engine.Engine.{Engine}
 use Rattle.doc_engine.specs.declared.refusal.CommitRefusal.{CommitRefusal}
@@ -21,7 +21,9 @@ use Rattle.doc_meaning.specs.declared.replies.CommitReply.{CommitReply}
 use Rattle.doc_meaning.specs.declared.replies.CommitReply.TheVariants as reply
 use Rattle.frame_log.specs.LogStates.{IsUp, end_of}
 use Rattle.disk_model.specs.Stretches.{Since}
-use Rattle.journal.specs.JournalStates.{OnlyLog, current_log, current_of}
+use Rattle.disk_model.specs.Files.{Files}
+use Rattle.journal.specs.JournalStates.{current_log}
+use Rattle.log_pair.specs.PairStates.{other_of}
 use Rattle.journal.specs.declared.journal.Journal.{Journal}
 
 -- the reply that a result gives, if it gives one
@@ -59,13 +61,13 @@ UnlessFault refusal.Fault same = ⊤
 UnlessFault refusal.Memory same = same
 
 -- why a commit was refused, beside its reply: a log was down, or a fault raised the disk's count, which is kept
-abbrev pub CommitRefused : EngineState → EngineState → ℕ → ℕ → CommitRefusal → Type 0
-CommitRefused old new before after (refusal.Down faults) = old.down ≡ Some faults
-CommitRefused old new before after (refusal.Twice uri) = old.down ≡ None
-CommitRefused old new before after (refusal.Conflict uri found front) = old.down ≡ None
-CommitRefused old new before after (refusal.Spent front end) = old.down ≡ None
-CommitRefused old new before after refusal.Fault = (old.down ≡ None) × Rose before after × (new.down ≡ Some after)
-CommitRefused old new before after refusal.Memory = old.down ≡ None
+abbrev pub CommitRefused : Option ℕ → Option ℕ → ℕ → ℕ → CommitRefusal → Type 0
+CommitRefused old new before after (refusal.Down faults) = old ≡ Some faults
+CommitRefused old new before after (refusal.Twice uri) = old ≡ None
+CommitRefused old new before after (refusal.Conflict uri found front) = old ≡ None
+CommitRefused old new before after (refusal.Spent front end) = old ≡ None
+CommitRefused old new before after refusal.Fault = (old ≡ None) × Rose before after × (new ≡ Some after)
+CommitRefused old new before after refusal.Memory = old ≡ None
 
 -- where the current journal ends then, and how much it grows or would grow
 abbrev pub Grows : Journal → Journal → ℕ → List Op → Result ℕ CommitRefusal → Type 0
@@ -79,54 +81,63 @@ Grows old new number ops (Err refusal.Memory) = end_of (current_log new) ≡ end
 
 module _ {D : Type 0} (of_disk : Disk.Ghosts D) where
   -- what the logs represent after a commit
-  abbrev pub RepresentsAfter : Journal → D → History → List Op → Result ℕ CommitRefusal → Type 0
-  RepresentsAfter journal disk h ops (Ok at) = RepresentsHistory of_disk journal disk (with_commit h ops) None
-  RepresentsAfter journal disk h ops (Err (refusal.Down faults)) = RepresentsHistory of_disk journal disk h None
-  RepresentsAfter journal disk h ops (Err (refusal.Twice uri)) = RepresentsHistory of_disk journal disk h None
-  RepresentsAfter journal disk h ops (Err (refusal.Conflict uri found front)) =
-      RepresentsHistory of_disk journal disk h None
-  RepresentsAfter journal disk h ops (Err (refusal.Spent front end)) = RepresentsHistory of_disk journal disk h None
-  RepresentsAfter journal disk h ops (Err refusal.Fault) = RepresentsHistory of_disk journal disk h (Some (Commit ops))
-  RepresentsAfter journal disk h ops (Err refusal.Memory) = RepresentsHistory of_disk journal disk h None
+  abbrev pub RepresentsAfter : Files → Journal → D → History → List Op → Result ℕ CommitRefusal → Type 0
+  RepresentsAfter files journal disk h ops (Ok at) =
+      RepresentsHistory of_disk files journal disk (with_commit h ops) None
+  RepresentsAfter files journal disk h ops (Err (refusal.Down faults)) =
+      RepresentsHistory of_disk files journal disk h None
+  RepresentsAfter files journal disk h ops (Err (refusal.Twice uri)) =
+      RepresentsHistory of_disk files journal disk h None
+  RepresentsAfter files journal disk h ops (Err (refusal.Conflict uri found front)) =
+      RepresentsHistory of_disk files journal disk h None
+  RepresentsAfter files journal disk h ops (Err (refusal.Spent front end)) =
+      RepresentsHistory of_disk files journal disk h None
+  RepresentsAfter files journal disk h ops (Err refusal.Fault) =
+      RepresentsHistory of_disk files journal disk h (Some (Commit ops))
+  RepresentsAfter files journal disk h ops (Err refusal.Memory) = RepresentsHistory of_disk files journal disk h None
 
-  -- the logs go on to the history with the commit; at each moment a crash leaves what shows it, or the one before
-  pub record Enters (journal : Journal) (before after : D) (h : History) (ops : List Op)
+  -- with these files the logs go on to the history with the commit; at each moment a crash leaves what shows it, or the
+  -- one before
+  pub record Enters (files : Files) (journal : Journal) (before after : D) (h : History) (ops : List Op)
       (result : Result ℕ CommitRefusal) : Type 0 where
-    pub now : RepresentsAfter journal after h ops result
-    pub any_moment : Since of_disk before after (ShowsWith h (Some (Commit ops)))
+    pub now : RepresentsAfter files journal after h ops result
+    pub any_moment : Since of_disk before after (ShowsWith files h (Some (Commit ops)))
 
 module _ {D Y F B : Type 0} {of_disk : Disk.Ghosts D} {of_yard : Yard.Ghosts Y F B} {of_file : SealedFile.Ghosts F}
     {of_build : Build.Ghosts B F} (old new : Engine D Y F B of_disk of_yard of_file of_build) where
   -- at each history that the engine is at it returns the reply of that history, and goes on to the next; with the
   -- commit the journal would end there
   pub record AnswersCommit (ops : List Op) (result : Result ℕ CommitRefusal) : Type 0 where
-    pub reply : (h : History) → IsAt (state_of old) h → IfSome (reply_of result) (λ r.
-        r ≡ commit_reply (nat_le (2 ^ 62) (end_with (journal_of old) ((state_of old).read.front + 1) ops)) h ops)
-    pub goes_on : (h : History) → IsAt (state_of old) h → IsAt (state_of new) (history_after h ops result)
-    pub would : (h : History) → IsAt (state_of old) h → WouldEnter h ops result
-    pub cause : MatchResult result (λ _. ((state_of old).down ≡ None) × ((state_of new).down ≡ None))
-        (CommitRefused (state_of old) (state_of new) (of_disk.faults (disk_of old)) (of_disk.faults (disk_of new)))
+    pub reply : (h : History) → IsAt old h → IfSome (reply_of result) (λ r.
+        r ≡ commit_reply (nat_le (2 ^ 62) (end_with (journal_of old) (front_of old + 1) ops)) h ops)
+    pub goes_on : (h : History) → IsAt old h → IsAt new (history_after h ops result)
+    pub would : (h : History) → IsAt old h → WouldEnter h ops result
+    pub cause : MatchResult result (λ _. (down_since old ≡ None) × (down_since new ≡ None))
+        (CommitRefused (down_since old) (down_since new) (of_disk.faults (disk_of old)) (of_disk.faults (disk_of new)))
     pub later : of_disk.faults (disk_of old) ≤ of_disk.faults (disk_of new)
 
   -- where the journal ends after a commit
   abbrev pub GrowsByCommit : List Op → Result ℕ CommitRefusal → Type 0
-  GrowsByCommit ops result = Grows (journal_of old) (journal_of new) ((state_of old).read.front + 1) ops result
+  GrowsByCommit ops result = Grows (journal_of old) (journal_of new) (front_of old + 1) ops result
 
   -- after every refusal but a fault the engine is as before
   abbrev pub SameUnlessFault : Result ℕ CommitRefusal → Type 0
   SameUnlessFault result = IfErr result (λ why. UnlessFault why (new ≡ old))
 
-  -- where the logs represent a history that the engine is at, the commit is entered in it, and survives a crash
+  -- where with some files the logs represent a history that the engine is at, the commit is entered in it, and survives
+  -- a crash that keeps these files
   abbrev pub SurvivesCommit : List Op → Result ℕ CommitRefusal → Type 0
-  SurvivesCommit ops result = (h : History) → IsAt (state_of old) h
-      → RepresentsHistory of_disk (journal_of old) (disk_of old) h None
-      → Enters of_disk (journal_of new) (disk_of old) (disk_of new) h ops result
+  SurvivesCommit ops result = (files : Files) (h : History) → IsAt old h
+      → RepresentsHistory of_disk files (journal_of old) (disk_of old) h None
+      → Enters of_disk files (journal_of new) (disk_of old) (disk_of new) h ops result
 
   -- the yard, the settings, the merge timestamp, and all logs but the current journal stay; that one is up where the
   -- call was done
   pub record KeepsRest {T E : Type 0} (result : Result T E) : Type 0 where
     pub yard : yard_of new ≡ yard_of old
     pub settings : new.settings ≡ old.settings
-    pub merge : (state_of new).read.merge ≡ (state_of old).read.merge
-    pub logs : OnlyLog (current_of (journal_of old)) (journal_of old) (journal_of new)
+    pub merge : new.merge ≡ old.merge
+    pub other : other_of (journal_of new).entries ≡ other_of (journal_of old).entries
+    pub roots : (journal_of new).roots ≡ (journal_of old).roots
+    pub frozen : (journal_of new).frozen ≡ (journal_of old).frozen
     pub up : OnOk result (IsUp (current_log (journal_of new)))

@@ -1,5 +1,5 @@
 -- Which commits may be entered, and why others are refused before a device call.
-use Rattle.std.specs.Prelude.{ℕ, ◌≡◌, ◌+◌, ◌<◌, ◌^◌, ◌||◌, nat_le, List, [], length, map, Some, None, IsTrue, ⊤}
+use Rattle.std.specs.Prelude.{ℕ, ◌≡◌, ◌+◌, ◌<◌, ◌^◌, ◌||◌, nat_le, List, [], length, map, Option, Some, None, IsTrue, ⊤}
 use Rattle.std.specs.List.{find}
 use Rattle.std.specs.Option.{option_map}
 use Rattle.doc_model.specs.Operations.{uri_of}
@@ -7,7 +7,7 @@ use Rattle.doc_model.specs.Tree.{is_distinct}
 use Rattle.doc_model.specs.declared.entry.Entry.TheVariants.{Commit}
 use Rattle.doc_model.specs.declared.op.Op.{Op}
 use Rattle.doc_meaning.specs.Replies.{differs, first_twice, last_timestamp}
-use Rattle.doc_engine.specs.EngineState.{EngineState}
+use Rattle.doc_engine.specs.EngineState.{ReadState}
 use Rattle.doc_engine.specs.declared.refusal.CommitRefusal.{CommitRefusal}
 use Rattle.doc_engine.specs.declared.refusal.CommitRefusal.TheVariants as refusal
 use Rattle.frame_log.specs.LogStates.{end_of}
@@ -17,23 +17,23 @@ use Rattle.journal_bodies.specs.Entries.{SpellsEntry, entry}
 use Rattle.live_documents.specs.Conflicts.{conflict_at}
 
 -- the engine isn't down, no URI is named twice, and each operation expects the version that is live
-pub record MayEnter (held : EngineState) (ops : List Op) : Type 0 where
-  pub up : held.down ≡ None
+pub record MayEnter (seen : ReadState) (down : Option ℕ) (ops : List Op) : Type 0 where
+  pub up : down ≡ None
   pub once : first_twice [] (map uri_of ops) ≡ None
   pub distinct : IsTrue (is_distinct (map uri_of ops))
-  pub agrees : find (differs held.read.documents) ops ≡ None
+  pub agrees : find (differs seen.documents) ops ≡ None
 
 -- why operations may not be entered
-abbrev pub MayNotEnter : EngineState → List Op → CommitRefusal → Type 0
-MayNotEnter held ops (refusal.Down faults) = held.down ≡ Some faults
-MayNotEnter held ops (refusal.Twice uri) = (held.down ≡ None) × (first_twice [] (map uri_of ops) ≡ Some uri)
-MayNotEnter held ops (refusal.Conflict uri found front) = (held.down ≡ None) × (first_twice [] (map uri_of ops) ≡ None)
-    × (option_map (conflict_at held.read.documents) (find (differs held.read.documents) ops)
+abbrev pub MayNotEnter : ReadState → Option ℕ → List Op → CommitRefusal → Type 0
+MayNotEnter seen down ops (refusal.Down faults) = down ≡ Some faults
+MayNotEnter seen down ops (refusal.Twice uri) = (down ≡ None) × (first_twice [] (map uri_of ops) ≡ Some uri)
+MayNotEnter seen down ops (refusal.Conflict uri found front) = (down ≡ None) × (first_twice [] (map uri_of ops) ≡ None)
+    × (option_map (conflict_at seen.documents) (find (differs seen.documents) ops)
     ≡ Some (record { uri = uri; found = found }))
-    × (front ≡ held.read.front)
-MayNotEnter held ops (refusal.Spent front end) = ⊥
-MayNotEnter held ops refusal.Fault = ⊥
-MayNotEnter held ops refusal.Memory = held.down ≡ None
+    × (front ≡ seen.front)
+MayNotEnter seen down ops (refusal.Spent front end) = ⊥
+MayNotEnter seen down ops refusal.Fault = ⊥
+MayNotEnter seen down ops refusal.Memory = down ≡ None
 
 -- where the current journal ends once it has this commit under this number
 abbrev pub end_with : Journal → ℕ → List Op → ℕ

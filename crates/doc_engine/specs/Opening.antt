@@ -1,13 +1,14 @@
 -- What opening and making a directory return, and what the engine is then.
 use Rattle.std.specs.Prelude.{ℕ, ◌≡◌, ◌≢◌, ◌≤◌, max, [], length, Option, None, IfSome, IsSome, Result, Ok, Err, ⊤}
 use Rattle.disk_model.specs.Causes.{Rose}
+use Rattle.disk_model.specs.Files.{Files}
 use Rattle.disk_model.specs.Logs.{Image}
 use Rattle.disk_model.specs.Stretches.{OnlyRead}
 use Rattle.disk_model.specs.declared.disk.Disk
 use Rattle.disk_model.specs.declared.yard.Build
 use Rattle.disk_model.specs.declared.yard.SealedFile
 use Rattle.disk_model.specs.declared.yard.Yard
-use Rattle.doc_engine.specs.EngineState.{EngineState, IsAt, disk_of, journal_of, state_of}
+use Rattle.doc_engine.specs.EngineState.{IsAt, IsAtSince, disk_of, down_since, files_of, journal_of, yard_of}
 use Rattle.doc_engine.specs.Representing.{KeepsFormat, RepresentsHistory}
 use Rattle.doc_engine.specs.declared.engine.Engine.{Engine}
 use Rattle.doc_engine.specs.declared.refusal.OpenRefused.{OpenRefused}
@@ -17,13 +18,13 @@ use Rattle.doc_meaning.specs.History.{Base, BaseSettings, History, empty_base}
 use Rattle.frame_log.specs.LogStates.{end_of}
 use Rattle.journal.specs.JournalStates.{current_log}
 use Rattle.journal.specs.Refusing.{AreDamaged, AreDamagedRoots}
-use Rattle.journal_meaning.specs.Directories.{HasNoRoot, IsTaken, IsUsed, KeepsShown, MakesShown}
+use Rattle.directory_meaning.specs.Directories.{HasNoRoot, IsTaken, IsUsed, KeepsShown, MakesShown}
 use Rattle.journal.specs.declared.journal.Journal.{Journal}
 use Rattle.journal.specs.declared.refusal.JournalRefusal.{JournalRefusal}
 use Rattle.journal.specs.declared.refusal.JournalRefusal.TheVariants as refusal
 use Rattle.journal.specs.declared.refusal.MakeRefusal.{MakeRefusal}
 use Rattle.journal.specs.declared.refusal.MakeRefusal.TheVariants as make
-use Rattle.journal_meaning.specs.Shown.{Shows}
+use Rattle.directory_meaning.specs.Shown.{Shows}
 
 -- the history that begins with a base
 abbrev pub begins : Base → History
@@ -63,26 +64,6 @@ made_why (make.Damaged file place) = reason.Damaged file place
 made_why make.Fault = reason.Fault
 made_why make.Memory = reason.Memory
 
-module _ {D : Type 0} (of_disk : Disk.Ghosts D) where
-  -- the engine is at the empty base of these settings, is up, and its logs represent that base
-  pub record Creates (settings : BaseSettings) (held : EngineState) (journal : Journal) (disk : D) : Type 0 where
-    pub is_at : IsAt held (begins (empty_base settings))
-    pub up : held.down ≡ None
-    pub represents : RepresentsHistory of_disk journal disk (begins (empty_base settings)) None
-
-  -- the engine is at this base, and its logs represent it
-  pub record BeginsAt (base : Base) (held : EngineState) (journal : Journal) (disk : D) : Type 0 where
-    pub is_at : IsAt held (begins base)
-    pub represents : RepresentsHistory of_disk journal disk (begins base) None
-
-  -- the logs kept their format, the engine is at the history that they told and up, and begins at the base that the
-  -- image showed, if it showed one
-  pub record Opens (image : Image) (held : EngineState) (journal : Journal) (disk : D) : Type 0 where
-    pub format : KeepsFormat image
-    pub is_at : IsAt held format.history
-    pub up : held.down ≡ None
-    pub begun : (base : Base) → Shows image base → BeginsAt base held journal disk
-
 module _ {D : Type 0} (disk : Disk.Ghosts D) where
   -- a directory wasn't opened, for this reason; what was refused for what it holds was only read
   pub record RefusesOpening (before after : D) (why : OpenWhy) : Type 0 where
@@ -118,21 +99,35 @@ module _ {D Y F B : Type 0} {of_disk : Disk.Ghosts D} {of_yard : Yard.Ghosts Y F
   yard_after (Ok engine) = engine.yard
   yard_after (Err refused) = refused.yard
 
-  -- a directory was opened: the engine is up, and where the disk told its bytes it is at the history of the logs, and
-  -- its journal ends within the longest one that was found
+  -- the engine is at this base, and with these files its logs represent it
+  pub record BeginsAt (files : Files) (base : Base) (engine : Engine D Y F B of_disk of_yard of_file of_build)
+      : Type 0 where
+    pub is_at : IsAt engine (begins base)
+    pub represents : RepresentsHistory of_disk files (journal_of engine) (disk_of engine) (begins base) None
+
+  -- the logs kept their format, the engine is at the history that they told with these files, and begins at the base
+  -- that the image showed, if it showed one
+  pub record Opens (files : Files) (image : Image) (engine : Engine D Y F B of_disk of_yard of_file of_build)
+      : Type 0 where
+    pub format : KeepsFormat files image
+    pub is_at : IsAtSince engine format.merge format.history
+    pub begun : (base : Base) → Shows files image base → BeginsAt files base engine
+
+  -- a directory was opened: the engine is up, and where disk and yard told what they hold it is at the history of the
+  -- logs and files, and its journal ends within the longest one that was found
   pub record OpensDirectory (before : D) (engine : Engine D Y F B of_disk of_yard of_file of_build) : Type 0 where
-    pub up : (state_of engine).down ≡ None
-    pub opens : IfSome (of_disk.seen before) (λ image.
-        Opens of_disk image (state_of engine) (journal_of engine) (disk_of engine))
+    pub up : down_since engine ≡ None
+    pub opens : IfSome (of_disk.seen before) (λ image. IfSome (files_of of_yard (yard_of engine)) (λ files.
+        Opens files image engine))
     pub longest : IfSome (of_disk.seen before) (λ image.
         end_of (current_log (journal_of engine)) ≤ longest_of image)
 
-  -- a directory that had no root was made: the engine is up, and at the empty base
+  -- a directory that had no root was made: the engine is up, and at the empty base, whatever files are kept
   pub record CreatesDirectory (settings : BaseSettings) (before : D)
       (engine : Engine D Y F B of_disk of_yard of_file of_build) : Type 0 where
-    pub up : (state_of engine).down ≡ None
+    pub up : down_since engine ≡ None
     pub creates : IfSome (of_disk.seen before) (λ image. HasNoRoot image
-        × Creates of_disk settings (state_of engine) (journal_of engine) (disk_of engine))
+        × ((files : Files) → BeginsAt files (empty_base settings) engine))
 
   -- a directory was opened, or not
   abbrev pub AnswersOpen : D → Result (Engine D Y F B of_disk of_yard of_file of_build) (OpenRefused D Y) → Type 0

@@ -3,11 +3,11 @@ use Rattle.std.specs.Prelude.{ℕ, ◌≡◌, nat_lt, List, Option, Result, Ok, 
 use denote.Ref.{Bor}
 use Rattle.std.specs.FinMap.{get}
 use Rattle.std.specs.Option.{option_copied}
-use Rattle.doc_engine.specs.EngineState.{ReadState}
 use Rattle.doc_engine.specs.declared.refusal.SearchRefusal.{SearchRefusal}
 use Rattle.doc_engine.specs.declared.refusal.SearchRefusal.TheVariants as refusal
 use Rattle.doc_engine.specs.declared.refusal.TooOld.{TooOld}
 use Rattle.doc_meaning.specs.Answers.{answer_in}
+use Rattle.doc_meaning.specs.History.{History, front, latest}
 use Rattle.doc_meaning.specs.Replies.{unless_bad}
 use Rattle.doc_meaning.specs.declared.replies.ReadReply.{ReadReply}
 use Rattle.doc_meaning.specs.declared.replies.ReadReply.TheVariants as read
@@ -17,18 +17,19 @@ use Rattle.doc_model.specs.declared.query.Query.{Query}
 use Rattle.doc_model.specs.declared.refusal.QueryBad.{QueryBad}
 use Rattle.doc_model.specs.declared.refusal.QueryBad.TheVariants as bad
 
--- the reply to a read at the front: too old where the merge timestamp is past it, else what was found
-abbrev pub read_seen : {T : Type 0} → ReadState → T → ReadReply T
-read_seen seen found = if nat_lt seen.front seen.merge then read.Old seen.front seen.merge else read.Found found
+-- the reply to a read at the front of a history, from a merge timestamp on: too old where that is past the front, else
+-- what was found
+abbrev pub read_since : {T : Type 0} → ℕ → History → T → ReadReply T
+read_since merge h found = if nat_lt (front h) merge then read.Old (front h) merge else read.Found found
 
--- the reply to a search at the front: the rule that the query breaks, else what is read
-abbrev pub search_seen : ReadState → Query → ReadReply (List (List ℕ))
-search_seen seen q =
-    unless_bad (broken_query_rule q seen.settings.indexes) (read_seen seen (answer_in seen.documents q))
+-- the reply to a search there: the rule that the query breaks, else what is read
+abbrev pub search_since : ℕ → History → Query → ReadReply (List (List ℕ))
+search_since merge h q =
+    unless_bad (broken_query_rule q h.base.settings.indexes) (read_since merge h (answer_in (latest h) q))
 
--- the reply to a get at the front: the live version, or none
-abbrev pub get_seen : ReadState → List ℕ → ReadReply (Option Version)
-get_seen seen uri = read_seen seen (get seen.documents uri)
+-- the reply to a get there: the live version, or none
+abbrev pub get_since : ℕ → History → List ℕ → ReadReply (Option Version)
+get_since merge h uri = read_since merge h (get (latest h) uri)
 
 -- a refusal of a query as one of the search; want of memory for it is want of memory for the search
 abbrev pub refused_as : QueryBad → SearchRefusal

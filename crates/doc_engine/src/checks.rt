@@ -13,13 +13,13 @@ use live_documents::first_twice;
 
 impl<D: Disk, Y: Yard> Engine<D, Y> {
     ghost use Rattle.doc_engine.specs.Checks.{HasNoRoom, HasRoom, MayEnter, MayNotEnter};
-    ghost use Rattle.doc_engine.specs.EngineState.{state_of, journal_of};
+    ghost use Rattle.doc_engine.specs.EngineState.{down_since, front_of, journal_of, read_state};
 
     // Refuses while a log is down, a URI that is named twice, and an operation that expects another version than the
     // live one.
     pub(crate) fn check(&self, ops: &Ops) -> Result<(), CommitRefusal>
-        ensures may { OnOk result (MayEnter (state_of self.now) ops.now) }
-        ensures refused { IfErr result (MayNotEnter (state_of self.now) ops.now) }
+        ensures may { OnOk result (MayEnter (read_state self.now) (down_since self.now) ops.now) }
+        ensures refused { IfErr result (MayNotEnter (read_state self.now) (down_since self.now) ops.now) }
     {
         if let Some(faults) = self.down {
             return Err(CommitRefusal::Down { faults });
@@ -40,9 +40,9 @@ impl<D: Disk, Y: Yard> Engine<D, Y> {
     // The frame of the next entry, where a timestamp is left and the journal has room. Its length is that under any
     // number.
     pub(crate) fn frame(&self, ops: &Ops) -> Result<Frame, CommitRefusal>
-        requires { MayEnter (state_of self.now) ops.now }
-        ensures room { IfOk result (HasRoom (state_of self.now).read.front (journal_of self.now) ops.now) }
-        ensures refused { IfErr result (HasNoRoom (state_of self.now).read.front (journal_of self.now) ops.now) }
+        requires { MayEnter (read_state self.now) (down_since self.now) ops.now }
+        ensures room { IfOk result (HasRoom (front_of self.now) (journal_of self.now) ops.now) }
+        ensures refused { IfErr result (HasNoRoom (front_of self.now) (journal_of self.now) ops.now) }
     {
         let number = self.front.saturating_add(1);
         let body = commit_body(self.alloc, number, ops)?;

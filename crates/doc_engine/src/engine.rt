@@ -1,16 +1,16 @@
 //! An engine over a directory's logs.
 
-ghost use Rattle.std.specs.Prelude.{◌≡◌, ◌<◌, ◌+◌, ◌^◌, ◌↔◌, None, IsTrue, IsSome, SomeIff};
+ghost use Rattle.std.specs.Prelude.{◌≡◌, ◌<◌, ◌+◌, ◌^◌, ◌↔◌, ℕ, None, Some, IsTrue, IsSome, SomeIff};
 ghost use Rattle.std.proofs.Props.{props};
 ghost use Rattle.doc_engine.specs.Created.{CreatedBy};
-ghost use Rattle.frame_log.specs.LogStates.{IsGateUnknown};
-ghost use Rattle.journal.specs.JournalStates.{AreUp, AreWithin, current_log};
+ghost use Rattle.journal.specs.JournalStates.{AreUp, AreWithin};
+ghost use Rattle.journal.specs.declared.broken_off.BrokenOff.TheVariants.{Entry};
 
 use crate::refusal::Pending;
 use crate::snapshot::Snapshot;
 use disk_model::{Disk, Store, Yard};
 use doc_model::Settings;
-use journal::Journal;
+use journal::{BrokenOff, Journal};
 use live_documents::LiveDocuments;
 use std::alloc::Global;
 
@@ -31,43 +31,46 @@ pub struct Engine<D: Disk, Y: Yard> {
     pub(crate) down: Option<u64>,
     ghost within: { AreWithin journal (D.seen disk) } by { Prim.hlevel props },
     ghost up: { ∥ (down ≡ None → AreUp journal) ∥₁ },
-    ghost early: { IsGateUnknown (current_log journal) → front + 1 < 2 ^ 64 } by { Prim.hlevel props },
+    ghost early: { journal.broken_off ≡ Some Entry → front + 1 < 2 ^ 64 } by { Prim.hlevel props },
     ghost stamps: { CreatedBy front live },
 }
 
 impl<D: Disk, Y: Yard> Engine<D, Y> {
-    ghost use Rattle.doc_engine.specs.EngineState.{disk_of, state_of, journal_of, view_of, yard_of};
+    ghost use Rattle.doc_engine.specs.EngineState.{IsAtSince, SeesSince, disk_of, down_since, front_of, journal_of};
+    ghost use Rattle.doc_engine.specs.EngineState.{yard_of};
     ghost use Rattle.doc_engine.specs.declared.refusal.Pending.TheVariants as pending;
+    ghost use Rattle.doc_meaning.specs.History.{History};
+    ghost use Rattle.doc_meaning.specs.History as history;
 
     /// The timestamp of the last entry.
     pub fn front(&self) -> u64
-        ensures { result ≡ (state_of self.now).read.front }
+        ensures front { result ≡ front_of self.now }
+        ensures history { (merge : ℕ) (h : History) → IsAtSince self.now merge h → result ≡ history.front h }
     {
         self.front
     }
 
     /// Whether a log is down.
     pub fn is_down(&self) -> bool
-        ensures { IsTrue result ↔ IsSome (state_of self.now).down }
+        ensures { IsTrue result ↔ IsSome (down_since self.now) }
     {
         self.down.is_some()
     }
 
-    /// What a broken append may have left, until the log is revived.
+    /// The entry that a fault broke off when its gate was touched, until the logs are revived.
     pub fn pending(&self) -> Option<Pending>
-        ensures { SomeIff result (IsGateUnknown (current_log (journal_of self.now)))
-            (pending.Entry ((state_of self.now).read.front + 1)) }
+        ensures { SomeIff result ((journal_of self.now).broken_off ≡ Some Entry)
+            (pending.Entry (front_of self.now + 1)) }
     {
-        if self.journal.is_entry_pending() {
-            Some(Pending::Entry(self.front + 1))
-        } else {
-            None
+        match self.journal.broken_off() {
+            Some(BrokenOff::Entry) => Some(Pending::Entry(self.front + 1)),
+            Some(BrokenOff::Root | BrokenOff::Reset) | None => None,
         }
     }
 
     /// What a reader sees at this moment, in constant time.
     pub fn look(&self) -> Snapshot<'_>
-        ensures { view_of result ≡ (state_of self.now).read }
+        ensures { (merge : ℕ) (h : History) → IsAtSince self.now merge h → SeesSince result merge h }
     {
         Snapshot {
             front: self.front,

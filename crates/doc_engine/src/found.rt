@@ -1,6 +1,6 @@
 //! What was found of a directory, and the engine that holds it.
 
-ghost use Rattle.std.specs.Prelude.{◌≡◌};
+ghost use Rattle.std.specs.Prelude.{◌≡◌, None};
 ghost use Rattle.doc_engine.specs.Created.{CreatedBy};
 ghost use Rattle.journal.specs.JournalStates.{AreUp, AreWithin};
 
@@ -41,18 +41,20 @@ impl Found {
 }
 
 impl<D: Disk, Y: Yard> Engine<D, Y> {
-    ghost use Rattle.doc_engine.specs.Finding.{opened_state};
-    ghost use Rattle.doc_engine.specs.EngineState.{disk_of, state_of, journal_of, yard_of};
+    ghost use Rattle.doc_engine.specs.Finding.{found_state};
+    ghost use Rattle.doc_engine.specs.EngineState.{disk_of, down_since, journal_of, read_state, yard_of};
 
     // The engine that holds what was found, where no log is down.
     pub(crate) fn holding(alloc: Global, disk: D, yard: Y, found: Found) -> Engine<D, Y>
         requires within { AreWithin found.journal (D.seen disk) }
-        requires up { AreUp found.journal }
+        requires logs { AreUp found.journal }
+        requires whole { found.journal.broken_off ≡ None }
         requires stamps { CreatedBy found.restored.front found.restored.live }
         ensures disk { disk_of result ≡ disk }
         ensures yard { yard_of result ≡ yard }
         ensures journal { journal_of result ≡ found.journal }
-        ensures held { state_of result ≡ opened_state found }
+        ensures read { read_state result ≡ found_state found }
+        ensures up { down_since result ≡ None }
     {
         let Found {
             journal,

@@ -1,13 +1,14 @@
 //! Opening a directory.
 
-ghost use Rattle.std.specs.Prelude.{◌≡◌, ◌≢◌, IsSome, IfSome, IfOk, IfErr};
+ghost use Rattle.std.specs.Prelude.{◌≡◌, ◌≢◌, None, IsSome, IfSome, IfOk, IfErr};
 ghost use Rattle.doc_engine.specs.Created.{CreatedBy};
 ghost use Rattle.doc_engine.specs.Finding.{Finds};
 ghost use Rattle.doc_engine.specs.Opening.{NotOpened};
 ghost use Rattle.doc_engine.specs.declared.refusal.OpenWhy.TheVariants.{AlreadyThere, Fault, Memory};
 ghost use Rattle.frame_log.specs.Calls.{Blames};
+ghost use Rattle.disk_model.specs.Files.{Files};
 ghost use Rattle.disk_model.specs.Stretches.{OnlyRead};
-ghost use Rattle.journal_meaning.specs.Directories.{KeepsShown};
+ghost use Rattle.directory_meaning.specs.Directories.{KeepsShown};
 ghost use Rattle.journal.specs.JournalStates.{AreUp, AreWithin};
 
 use crate::engine::Engine;
@@ -42,11 +43,12 @@ impl<D: Disk, Y: Yard> Engine<D, Y> {
 
 // Reads the logs of a directory, and restores what they show.
 fn find<D: Disk>(alloc: Global, disk: &mut D) -> Result<Found, OpenWhy>
-    ensures found { IfOk result (λ found. IfSome (D.seen disk.old) (λ image.
-        Finds D.Disk image disk.new found)) }
+    ensures found { IfOk result (λ found. IfSome (D.seen disk.old) (λ image. (files : Files) →
+        Finds D.Disk files image disk.new found)) }
     ensures refused { IfErr result (λ why. IfSome (D.seen disk.old) (λ image. NotOpened image why)) }
     ensures kind { IfErr result (λ why. why ≢ AlreadyThere) }
     ensures up { IfOk result (λ found. AreUp found.journal) }
+    ensures whole { IfOk result (λ found. found.journal.broken_off ≡ None) }
     ensures stamps { IfOk result (λ found. CreatedBy found.restored.front found.restored.live) }
     ensures images { IsSome (D.seen disk.old) → KeepsShown D.Disk disk.old disk.new }
     ensures kept { IsSome (D.seen disk.old) → IfErr result (λ why. why ≢ Fault → why ≢ Memory →

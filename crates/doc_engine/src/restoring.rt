@@ -3,7 +3,7 @@
 ghost use Rattle.std.specs.Prelude.{◌≡◌, ◌+◌, [], ◌∷◌, map, IfOk, OnOk};
 ghost use Rattle.doc_engine.specs.Restoring.{Restores};
 ghost use Rattle.doc_meaning.specs.History.{after_entry, merge_after};
-ghost use Rattle.journal_meaning.specs.Bodies.{RiseFrom};
+ghost use Rattle.directory_meaning.specs.Bodies.{RiseFrom};
 
 use doc_model::Entry;
 use live_documents::LiveDocuments;

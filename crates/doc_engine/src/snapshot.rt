@@ -1,10 +1,10 @@
 //! What a reader sees at one moment.
 
 ghost use Rattle.std.specs.FinMap as map;
-ghost use Rattle.std.specs.Prelude.{◌≡◌, ◌≤◌, ◌<◌, MatchResult};
-ghost use Rattle.doc_engine.specs.EngineState.{IsReadStateOf, view_of};
-ghost use Rattle.doc_engine.specs.Reads.{ReturnsGet, ReturnsSearch, get_seen, search_seen};
-ghost use Rattle.doc_meaning.specs.History.{History, front};
+ghost use Rattle.std.specs.Prelude.{◌≡◌, ◌≤◌, ◌<◌, ℕ, MatchResult};
+ghost use Rattle.doc_engine.specs.EngineState.{Sees, SeesSince, view_of};
+ghost use Rattle.doc_engine.specs.Reads.{ReturnsGet, ReturnsSearch, get_since, search_since};
+ghost use Rattle.doc_meaning.specs.History.{History, front, latest};
 ghost use Rattle.doc_meaning.specs.Replies.{get_reply, search_reply};
 
 use crate::refusal::{SearchRefusal, TooOld};
@@ -25,21 +25,21 @@ pub struct Snapshot<'a> {
 impl Snapshot<'_> {
     /// The timestamp of the last entry.
     pub fn stamp(&self) -> u64
-        ensures { result ≡ (view_of self.now).front }
+        ensures { (merge : ℕ) (h : History) → SeesSince self.now merge h → result ≡ front h }
     {
         self.front
     }
 
     /// The timestamp below which nothing is read.
     pub fn merge_stamp(&self) -> u64
-        ensures { result ≡ (view_of self.now).merge }
+        ensures { (merge : ℕ) (h : History) → SeesSince self.now merge h → result ≡ merge }
     {
         self.merge
     }
 
     /// The number of live documents, in constant time.
     pub fn live(&self) -> u64
-        ensures { result ≡ map.len (view_of self.now).documents }
+        ensures { (merge : ℕ) (h : History) → SeesSince self.now merge h → result ≡ map.len (latest h) }
     {
         self.documents.len() as u64
     }
@@ -48,9 +48,9 @@ impl Snapshot<'_> {
     ///
     /// Where the merge timestamp is past the front there is nothing to read.
     pub fn get(&self, uri: &Text) -> Result<Option<&Version>, TooOld>
-        ensures gets { ReturnsGet (get_seen (view_of self.now) uri.now) result }
-        ensures reply { (h : History) → IsReadStateOf (view_of self.now) h
-            → ReturnsGet (get_reply h (front h) uri.now) result }
+        ensures since { (merge : ℕ) (h : History) → SeesSince self.now merge h
+            → ReturnsGet (get_since merge h uri.now) result }
+        ensures reply { (h : History) → Sees self.now h → ReturnsGet (get_reply h (front h) uri.now) result }
     {
         self.check_front()?;
         Ok(self.documents.get(uri))
@@ -60,9 +60,9 @@ impl Snapshot<'_> {
     ///
     /// A query that breaks a rule of `QueryBad` is refused first, then a front below the merge timestamp.
     pub fn search(&self, alloc: Global, query: &Query) -> Result<Texts, SearchRefusal>
-        ensures searches { ReturnsSearch (search_seen (view_of self.now) query.now) result }
-        ensures reply { (h : History) → IsReadStateOf (view_of self.now) h
-            → ReturnsSearch (search_reply h (front h) query.now) result }
+        ensures since { (merge : ℕ) (h : History) → SeesSince self.now merge h
+            → ReturnsSearch (search_since merge h query.now) result }
+        ensures reply { (h : History) → Sees self.now h → ReturnsSearch (search_reply h (front h) query.now) result }
     {
         check_query(alloc, query, &self.settings.indexes)?;
         self.check_front()?;

@@ -5,7 +5,7 @@ use Rattle.disk_model.specs.declared.disk.Disk
 use Rattle.disk_model.specs.declared.yard.Build
 use Rattle.disk_model.specs.declared.yard.SealedFile
 use Rattle.disk_model.specs.declared.yard.Yard
-use Rattle.doc_engine.specs.EngineState.{IsAt, state_of, journal_of}
+use Rattle.doc_engine.specs.EngineState.{IsAt, down_since, journal_of}
 use Rattle.doc_engine.specs.Opening.{begins}
 use Rattle.doc_engine.specs.declared.engine.Engine.{Engine}
 use Rattle.doc_meaning.specs.History.{Base}
@@ -29,7 +29,7 @@ module _ {D Y F B : Type 0} {of_disk : Disk.Ghosts D} {of_yard : Yard.Ghosts Y F
     (steps : (old : S) (asked : Command) (said : Reply) (new : S) → answers old asked said new
     → Step (engine_of old) asked said (engine_of new)) where
   pub attended : (first final : S) (base : Base) (longest : ℕ) (input output : List ℕ) (how : SessionEnd) (over : Bool)
-      → IsAt (state_of (engine_of first)) (begins base) → (state_of (engine_of first)).down ≡ None
+      → IsAt (engine_of first) (begins base) → down_since (engine_of first) ≡ None
       → end_of (current_log (journal_of (engine_of first))) ≤ longest
       → s.Serves answers first final input output how over
       → Attended (engine_of first) (engine_of final) base longest input output over how

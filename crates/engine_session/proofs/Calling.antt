@@ -7,7 +7,7 @@ use Rattle.disk_model.specs.declared.disk.Disk
 use Rattle.disk_model.specs.declared.yard.Build
 use Rattle.disk_model.specs.declared.yard.SealedFile
 use Rattle.disk_model.specs.declared.yard.Yard
-use Rattle.doc_engine.specs.EngineState.{IsAt, state_of, journal_of}
+use Rattle.doc_engine.specs.EngineState.{IsAt, down_since, journal_of}
 use Rattle.doc_engine.specs.Opening.{begins}
 use Rattle.doc_engine.specs.declared.engine.Engine.{Engine}
 use Rattle.doc_meaning.specs.History.{Base}
@@ -43,8 +43,8 @@ module _ {D Y F B : Type 0} {of_disk : Disk.Ghosts D} {of_yard : Yard.Ghosts Y F
       subst₂ (λ (e o : Engine D Y F B of_disk of_yard of_file of_build). Step e asked said o) called.shows called.leaves
       (says old.answer called.shown asked said called.left new.answer called.called.met)
 
-  pub attended_by : (base : Base) (longest : ℕ) → IsAt (state_of first.state) (begins base)
-      → (state_of first.state).down ≡ None → end_of (current_log (journal_of first.state)) ≤ longest
+  pub attended_by : (base : Base) (longest : ℕ) → IsAt first.state (begins base)
+      → down_since first.state ≡ None → end_of (current_log (journal_of first.state)) ≤ longest
       → Attended first.state final.state base longest input output over how
   attended_by base longest at up ends =
       attended at_now (λ old asked said new. CalledWithState g old.answer old.state asked said new.answer new.state)

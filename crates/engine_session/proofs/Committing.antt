@@ -10,7 +10,7 @@ use Rattle.disk_model.specs.declared.yard.Build
 use Rattle.disk_model.specs.declared.yard.SealedFile
 use Rattle.disk_model.specs.declared.yard.Yard
 use Rattle.doc_engine.specs.Checks.{IsShort, end_with}
-use Rattle.doc_engine.specs.EngineState.{IsAt, disk_of, state_of, journal_of}
+use Rattle.doc_engine.specs.EngineState.{IsAt, disk_of, down_since, front_of, journal_of}
 use Rattle.doc_engine.specs.Representing.{ShowsWith, RepresentsHistory}
 use Rattle.doc_engine.specs.declared.engine.Engine.{Engine}
 use Rattle.doc_engine.specs.declared.refusal.CommitRefusal.{CommitRefusal}
@@ -44,28 +44,28 @@ module _ {D Y F B : Type 0} {of_disk : Disk.Ghosts D} {of_yard : Yard.Ghosts Y F
 
   -- the turn of the commit with this answer
   abbrev pub commit_turn : Result ℕ CommitRefusal → Turn
-  commit_turn result = turn_of (commit ops) (answer_of result) (state_of new).down
+  commit_turn result = turn_of (commit ops) (answer_of result) (down_since new)
 
   end : ℕ
-  end = end_with (journal_of old) ((state_of old).read.front + 1) ops
+  end = end_with (journal_of old) (front_of old + 1) ops
 
   -- the journal may be full only where the entries that came about may fill it
-  may_be_full : IsShort (journal_of old) ((state_of old).read.front + 1) ops
+  may_be_full : IsShort (journal_of old) (front_of old + 1) ops
       → MayBeFull base longest list (nat_le (2 ^ 62) end)
   unfolding end
   may_be_full near full = omega (arith, leb-true (2 ^ 62) end full, near, takes.ends)
 
   -- where no log is down the answer is as defined
-  as_defined : (answer : Answer) → (state_of old).down ≡ None → AnswersEvent base longest list (commit ops) answer
+  as_defined : (answer : Answer) → down_since old ≡ None → AnswersEvent base longest list (commit ops) answer
       → UnlessDown true (down_of list) answer (AnswersEvent base longest list (commit ops) answer)
   as_defined answer up defined =
       subst (λ (d : Option ℕ). UnlessDown true d answer (AnswersEvent base longest list (commit ops) answer))
       (sym up ∙ takes.down) defined
 
   -- where an engine that was left as it was is down, so the turns were before
-  still_down : new ≡ old → (state_of new).down ≡ down_of list
+  still_down : new ≡ old → down_since new ≡ down_of list
   still_down same =
-      ap (λ (e : Engine D Y F B of_disk of_yard of_file of_build). (state_of e).down) same ∙ takes.down
+      ap (λ (e : Engine D Y F B of_disk of_yard of_file of_build). down_since e) same ∙ takes.down
 
   -- a refusal that leaves the engine as it was
   refused : (result : Result ℕ CommitRefusal) → new ≡ old → IsTurn base longest list (commit_turn result)
@@ -76,7 +76,7 @@ module _ {D Y F B : Type 0} {of_disk : Disk.Ghosts D} {of_yard : Yard.Ghosts Y F
       subst (λ (e : Engine D Y F B of_disk of_yard of_file of_build).
       Takes first e base longest (list ++ commit_turn result ∷ [])) (sym same)
       (takes_same at_now first base longest old list (commit_turn result) takes refl follows none (still_down same)
-      (pending_stays list (commit ops) (answer_of result) (state_of new).down (still_down same) stays))
+      (pending_stays list (commit ops) (answer_of result) (down_since new) (still_down same) stays))
 
   -- a commit that was entered
   entered : (at : ℕ) → HasCommitted old new ops (Ok at)
@@ -90,7 +90,7 @@ module _ {D Y F B : Type 0} {of_disk : Disk.Ghosts D} {of_yard : Yard.Ghosts Y F
       let whole = one_more base list (commit_turn (Ok at)) (entry.Commit ops) refl in
       let pends : pending_of (list ++ commit_turn (Ok at) ∷ []) ≡ None =
       pending_last None list (commit_turn (Ok at))
-      ∙ behind_none (pending_of list) (commit ops) (answer_of (Ok at)) (state_of new).down lasts in
+      ∙ behind_none (pending_of list) (commit ops) (answer_of (Ok at)) (down_since new) lasts in
       takes_more at_now first base longest old new list (commit_turn (Ok at)) takes refl
       (record {
         asked = asked;
@@ -99,7 +99,7 @@ module _ {D Y F B : Type 0} {of_disk : Disk.Ghosts D} {of_yard : Yard.Ghosts Y F
             (inl (nat_le (2 ^ 62) end, may_be_full has.growth.1, ap commits (has.answers.reply h is))));
         is_down = lasts ∙ sym list_up;
       })
-      (subst (λ (g : History). IsAt (state_of new) g) (sym whole) (has.answers.goes_on h is))
+      (subst (λ (g : History). IsAt new g) (sym whole) (has.answers.goes_on h is))
       refl
       (subst (λ (o : Option ℕ). IfSome o (λ count. Rose (of_disk.faults (disk_of first)) count
       × (count ≤ of_disk.faults (disk_of new)))) (sym lasts) tt)
@@ -113,20 +113,20 @@ module _ {D Y F B : Type 0} {of_disk : Disk.Ghosts D} {of_yard : Yard.Ghosts Y F
         length-append h.entries (entry.Commit ops ∷ []),
       ))
       has.rest.yard
-      (λ represents.
-      let enters = has.crash h is (subst (λ (p : Option Entry).
-      RepresentsHistory of_disk (journal_of old) (disk_of old) h p)
+      (λ files represents.
+      let enters = has.crash files h is (subst (λ (p : Option Entry).
+      RepresentsHistory of_disk files (journal_of old) (disk_of old) h p)
       (up_none list list_up) represents) in (
         subst₂ (λ (g : History) (p : Option Entry).
-            RepresentsHistory of_disk (journal_of new) (disk_of new) g p)
+            RepresentsHistory of_disk files (journal_of new) (disk_of new) g p)
             (sym whole) (sym pends) enters.now,
         throughout_weaker _ _ _ _ _ _ enters.any_moment (λ c shows. ⊎_elim
-            (λ here. shows_more base list (commit_turn (Ok at)) (length list) c
-            (shows_all base list (length list) c (omega arith)
-            (subst (λ (p : Option Entry). ShowsWith h p c) (sym (up_none list list_up)) here)))
-            (λ next. shows_all base (list ++ commit_turn (Ok at) ∷ []) (length list) c
+            (λ here. shows_more files base list (commit_turn (Ok at)) (length list) c
+            (shows_all files base list (length list) c (omega arith)
+            (subst (λ (p : Option Entry). ShowsWith files h p c) (sym (up_none list list_up)) here)))
+            (λ next. shows_all files base (list ++ commit_turn (Ok at) ∷ []) (length list) c
             (omega (arith, length-append list (commit_turn (Ok at) ∷ [])))
-            (subst₂ (λ (g : History) (p : Option Entry). ShowsWith g p c) (sym whole) (sym pends) next))
+            (subst₂ (λ (g : History) (p : Option Entry). ShowsWith files g p c) (sym whole) (sym pends) next))
             shows),
       ))
 
@@ -152,7 +152,7 @@ module _ {D Y F B : Type 0} {of_disk : Disk.Ghosts D} {of_yard : Yard.Ghosts Y F
         answers = inr (as_defined fault up (inr (refl, has.answers.would h is)));
         is_down = (of_disk.faults (disk_of new), downs, sets rose);
       })
-      (subst (λ (g : History). IsAt (state_of new) g) (sym whole) (has.answers.goes_on h is))
+      (subst (λ (g : History). IsAt new g) (sym whole) (has.answers.goes_on h is))
       refl
       (subst (λ (o : Option ℕ). IfSome o (λ count. Rose (of_disk.faults (disk_of first)) count
       × (count ≤ of_disk.faults (disk_of new)))) (sym downs)
@@ -160,16 +160,16 @@ module _ {D Y F B : Type 0} {of_disk : Disk.Ghosts D} {of_yard : Yard.Ghosts Y F
       has.answers.later
       (omega (arith, has.growth, takes.ends, ap (λ (g : History). length g.entries) whole))
       has.rest.yard
-      (λ represents.
-      let enters = has.crash h is (subst (λ (p : Option Entry).
-      RepresentsHistory of_disk (journal_of old) (disk_of old) h p)
+      (λ files represents.
+      let enters = has.crash files h is (subst (λ (p : Option Entry).
+      RepresentsHistory of_disk files (journal_of old) (disk_of old) h p)
       (up_none list list_up) represents) in (
         subst₂ (λ (g : History) (p : Option Entry).
-            RepresentsHistory of_disk (journal_of new) (disk_of new) g p)
+            RepresentsHistory of_disk files (journal_of new) (disk_of new) g p)
             (sym whole) (sym pends) enters.now,
         throughout_weaker _ _ _ _ _ _ enters.any_moment (λ c shows.
-            shows_all base (list ++ turn ∷ []) (length list) c (omega (arith, length-append list (turn ∷ [])))
-            (subst₂ (λ (g : History) (p : Option Entry). ShowsWith g p c) (sym whole) (sym pends) shows)),
+            shows_all files base (list ++ turn ∷ []) (length list) c (omega (arith, length-append list (turn ∷ [])))
+            (subst₂ (λ (g : History) (p : Option Entry). ShowsWith files g p c) (sym whole) (sym pends) shows)),
       ))
     where
       earlier_counts : (o : Option ℕ) → Rose (of_disk.faults (disk_of old)) (of_disk.faults (disk_of new))
@@ -183,9 +183,9 @@ module _ {D Y F B : Type 0} {of_disk : Disk.Ghosts D} {of_yard : Yard.Ghosts Y F
       sets rose k d lt = earlier_counts _ rose (takes.counts k d lt)
 
   -- the turn that a refusal makes where no log is down
-  follows_up : (result : Result ℕ CommitRefusal) → (state_of old).down ≡ None → new ≡ old
+  follows_up : (result : Result ℕ CommitRefusal) → down_since old ≡ None → new ≡ old
       → AnswersEvent base longest list (commit ops) (answer_of result)
-      → ((state_of new).down ≡ down_of list → IsDown list (commit ops) (answer_of result) (state_of new).down)
+      → (down_since new ≡ down_of list → IsDown list (commit ops) (answer_of result) (down_since new))
       → IsTurn base longest list (commit_turn result)
   follows_up result up same defined downs = record {
     asked = asked;

@@ -4,7 +4,6 @@ pub mod Crashing
 pub mod Taking
 pub mod Saying
 pub mod Committing
-pub mod Wording
 pub mod Writing
 pub mod Using
 pub mod Staying

@@ -4,6 +4,7 @@ use Rattle.std.proofs.Common.{List, [], ◌∷◌, ◌++◌, length, Option, Som
 use Rattle.std.proofs.Common.{◌∙◌, arith}
 use Rattle.std.proofs.lemmas.List.Elements.{All-append}
 use Rattle.disk_model.specs.Causes.{Rose}
+use Rattle.disk_model.specs.Files.{Files}
 use Rattle.disk_model.specs.Logs.{Image}
 use Rattle.disk_model.specs.Moments.{Throughout}
 use Rattle.disk_model.specs.declared.disk.Disk
@@ -11,7 +12,7 @@ use Rattle.disk_model.specs.declared.yard.Build
 use Rattle.disk_model.specs.declared.yard.SealedFile
 use Rattle.disk_model.specs.declared.yard.Yard
 use Rattle.doc_engine.proofs.Representations.{represented_is_shown}
-use Rattle.doc_engine.specs.EngineState.{IsAt, disk_of, state_of, journal_of, yard_of}
+use Rattle.doc_engine.specs.EngineState.{IsAt, disk_of, down_since, files_of, journal_of, store_of, yard_of}
 use Rattle.doc_engine.specs.Opening.{begins}
 use Rattle.doc_engine.specs.Representing.{ShowsWith, RepresentsHistory}
 use Rattle.doc_engine.specs.declared.engine.Engine.{Engine}
@@ -52,15 +53,15 @@ module _ {D Y F B : Type 0} {of_disk : Disk.Ghosts D} {of_yard : Yard.Ghosts Y F
     {of_build : Build.Ghosts B F}
     (at_now : LeavesNow of_disk)
     (first : Engine D Y F B of_disk of_yard of_file of_build) (base : Base) (longest : ℕ) where
-  -- each image shows what the logs represent
-  shown_now : (now : Engine D Y F B of_disk of_yard of_file of_build) (h : History) (pending : Option Entry)
-      → RepresentsHistory of_disk (journal_of now) (disk_of now) h pending
-      → (c : Image) → of_disk.may_leave (disk_of now) c → ShowsWith h pending c
-  shown_now now h pending represents c may =
-      represented_is_shown of_disk (journal_of now) (disk_of now) h pending c represents may
+  -- with the files that are kept each image shows what the logs represent
+  shown_now : (files : Files) (now : Engine D Y F B of_disk of_yard of_file of_build) (h : History)
+      (pending : Option Entry) → RepresentsHistory of_disk files (journal_of now) (disk_of now) h pending
+      → (c : Image) → of_disk.may_leave (disk_of now) c → ShowsWith files h pending c
+  shown_now files now h pending represents c may =
+      represented_is_shown of_disk files (journal_of now) (disk_of now) h pending c represents may
 
   -- before the first turn
-  pub takes_first : IsAt (state_of first) (begins base) → (state_of first).down ≡ None
+  pub takes_first : IsAt first (begins base) → down_since first ≡ None
       → end_of (current_log (journal_of first)) ≤ longest → Takes first first base longest []
   takes_first is up ends = record {
     own = λ k d lt. absurd (omega (arith, lt));
@@ -71,32 +72,34 @@ module _ {D Y F B : Type 0} {of_disk : Disk.Ghosts D} {of_yard : Yard.Ghosts Y F
     later = omega arith;
     ends = omega (arith, ends);
     yard = refl;
-    keeps = λ represents. record {
+    keeps = λ files holds represents. record {
       represents = represents;
-      crash = acknowledges_none of_disk at_now base (disk_of first)
-          (represents.represents.each 0 (omega arith)).told (shown_now first (begins base) None represents);
-      since = throughout_still _ _ _ _ (λ c left. (at_now (disk_of first) c).0 left) (λ c left. shows_all base [] 0 c
-          (omega arith) (shown_now first (begins base) None represents c left));
+      crash = acknowledges_none of_disk of_yard at_now files base (store_of first) represents.represents.0.0.told holds
+          (shown_now files first (begins base) None represents);
+      since = throughout_still _ _ _ _ (λ c left. (at_now (disk_of first) c).0 left)
+          (λ c left. shows_all files base [] 0 c (omega arith)
+          (shown_now files first (begins base) None represents c left));
     };
   }
 
   module _ (old new : Engine D Y F B of_disk of_yard of_file of_build) (list : List Turn) (turn : Turn)
-      (takes : Takes first old base longest list) (own : turn.author ≡ 0) (follows : IsTurn base longest list turn) where
+      (takes : Takes first old base longest list) (own : turn.author ≡ 0)
+      (follows : IsTurn base longest list turn) where
     -- a turn more, by what changed
-    pub takes_more : IsAt (state_of new) (history_of base (list ++ turn ∷ [])) → (state_of new).down ≡ turn.down
+    pub takes_more : IsAt new (history_of base (list ++ turn ∷ [])) → down_since new ≡ turn.down
         → IfSome turn.down (λ count. Rose (of_disk.faults (disk_of first)) count
         × (count ≤ of_disk.faults (disk_of new)))
         → of_disk.faults (disk_of old) ≤ of_disk.faults (disk_of new)
         → end_of (current_log (journal_of new))
         ≤ longest + 2 ^ 31 * length (history_of base (list ++ turn ∷ [])).entries
         → yard_of new ≡ yard_of old
-        → (RepresentsHistory of_disk (journal_of old) (disk_of old) (history_of base list)
+        → ((files : Files) → RepresentsHistory of_disk files (journal_of old) (disk_of old) (history_of base list)
         (pending_of list)
-        → RepresentsHistory of_disk (journal_of new) (disk_of new)
+        → RepresentsHistory of_disk files (journal_of new) (disk_of new)
         (history_of base (list ++ turn ∷ [])) (pending_of (list ++ turn ∷ []))
         × Throughout (of_disk.moment (disk_of old)) (of_disk.moment (disk_of new))
         (of_disk.left_since (disk_of old)) (of_disk.left_since (disk_of new))
-        (λ c. ShowsFrom base (list ++ turn ∷ []) (length list) c))
+        (λ c. ShowsFrom files base (list ++ turn ∷ []) (length list) c))
         → Takes first new base longest (list ++ turn ∷ [])
     takes_more is down counted later ends yard keeps =
         let counted_by : Turn → Type 0 = λ t. IfSome t.down (λ count. Rose (of_disk.faults (disk_of first)) count
@@ -112,16 +115,18 @@ module _ {D Y F B : Type 0} {of_disk : Disk.Ghosts D} {of_yard : Yard.Ghosts Y F
           later = omega (arith, takes.later, later);
           ends = ends;
           yard = yard ∙ takes.yard;
-          keeps = λ represents.
-              let kept = takes.keeps represents in
-              let step = keeps kept.represents in
+          keeps = λ files holds represents.
+              let kept = takes.keeps files holds represents in
+              let step = keeps files kept.represents in
               record {
                 represents = step.0;
-                crash = acknowledges_more of_disk at_now base list turn (disk_of first) (disk_of old) (disk_of new)
-                    kept.crash step.1 (step.0.represents.each 0 (omega arith)).told
-                    (shown_now new (history_of base (list ++ turn ∷ [])) (pending_of (list ++ turn ∷ [])) step.0);
-                since = since_more of_disk at_now base list turn (disk_of first) (disk_of old) (disk_of new)
-                    kept.since step.1;
+                crash = acknowledges_more of_disk of_yard at_now files base list turn (store_of first) (store_of old)
+                    (store_of new) kept.crash step.1 step.0.represents.0.0.told yard
+                    (subst (λ (y : Y). files_of of_yard y ≡ Some files) (sym (yard ∙ takes.yard)) holds)
+                    (shown_now files new (history_of base (list ++ turn ∷ [])) (pending_of (list ++ turn ∷ []))
+                    step.0);
+                since = since_more of_disk of_yard at_now files base list turn (disk_of first) (disk_of old)
+                    (disk_of new) kept.since step.1;
               };
         }
 
@@ -139,7 +144,7 @@ module _ {D Y F B : Type 0} {of_disk : Disk.Ghosts D} {of_yard : Yard.Ghosts Y F
     pub takes_same : Takes first now base longest (list ++ turn ∷ [])
     takes_same =
         takes_more now now list turn takes own follows
-        (subst (λ (h : History). IsAt (state_of now) h) (sym same) takes.is_at)
+        (subst (λ (h : History). IsAt now h) (sym same) takes.is_at)
         (takes.down ∙ sym down)
         (subst (λ (o : Option ℕ). IfSome o (λ count. Rose (of_disk.faults (disk_of first)) count
         × (count ≤ of_disk.faults (disk_of now)))) (sym down)
@@ -149,12 +154,12 @@ module _ {D Y F B : Type 0} {of_disk : Disk.Ghosts D} {of_yard : Yard.Ghosts Y F
         (subst (λ (h : History). end_of (current_log (journal_of now)) ≤ longest + 2 ^ 31 * length h.entries)
         (sym same) takes.ends)
         refl
-        (λ represents. (
+        (λ files represents. (
           subst₂ (λ (h : History) (p : Option Entry).
-              RepresentsHistory of_disk (journal_of now) (disk_of now) h p) (sym same) (sym pends)
+              RepresentsHistory of_disk files (journal_of now) (disk_of now) h p) (sym same) (sym pends)
               represents,
           throughout_still _ _ _ _ (λ c left. (at_now (disk_of now) c).0 left)
-              (λ c left. shows_more base list turn (length list) c
-              (shows_all base list (length list) c (omega arith)
-              (shown_now now (history_of base list) (pending_of list) represents c left))),
+              (λ c left. shows_more files base list turn (length list) c
+              (shows_all files base list (length list) c (omega arith)
+              (shown_now files now (history_of base list) (pending_of list) represents c left))),
         ))

@@ -9,7 +9,7 @@ use Rattle.disk_model.specs.declared.disk.Disk
 use Rattle.disk_model.specs.declared.yard.Build
 use Rattle.disk_model.specs.declared.yard.SealedFile
 use Rattle.disk_model.specs.declared.yard.Yard
-use Rattle.doc_engine.specs.EngineState.{state_of}
+use Rattle.doc_engine.specs.EngineState.{down_since}
 use Rattle.doc_engine.specs.declared.engine.Engine.{Engine}
 use Rattle.doc_meaning.specs.History.{Base}
 use Rattle.doc_meaning.specs.Replies.{look_reply}
@@ -21,7 +21,6 @@ use Rattle.engine_session.proofs.Crashing.{LeavesNow}
 use Rattle.engine_session.proofs.Saying.{answer_of, said_is}
 use Rattle.engine_session.proofs.Taking.{takes_same}
 use Rattle.engine_session.proofs.Turning.{pending_stays, turn_of}
-use Rattle.engine_session.proofs.Wording.{found_at, got_at}
 use Rattle.engine_session.specs.Attended.{Takes}
 use Rattle.engine_session.specs.Step.{Step}
 use Rattle.transcript.proofs.OwnTurnLemmas.{visits-append}
@@ -97,13 +96,13 @@ module _ {D Y F B : Type 0} {of_disk : Disk.Ghosts D} {of_yard : Yard.Ghosts Y F
         }
 
     look_turn : Turn
-    look_turn = turn_of look (looks (look_reply (history_of base list))) (state_of old).down
+    look_turn = turn_of look (looks (look_reply (history_of base list))) (down_since old)
 
     look_takes : Takes first old base longest (list ++ look_turn ∷ [])
     unfolding look_turn
     look_takes = takes_same at_now first base longest old list look_turn takes refl
         (record { asked = tt; of_job = tt; answers = inr refl; is_down = takes.down }) refl takes.down
-        (pending_stays list look (looks (look_reply (history_of base list))) (state_of old).down takes.down
+        (pending_stays list look (looks (look_reply (history_of base list))) (down_since old) takes.down
         (λ n. refl))
 
     -- a command that only looks
@@ -138,7 +137,7 @@ module _ {D Y F B : Type 0} {of_disk : Disk.Ghosts D} {of_yard : Yard.Ghosts Y F
         let h = history_of base list in
         let m = n + a.reads_of (command.Search q when.Front) h in
         looked m answer same (lines (turns_behind 0 list (look_turn ∷ [])) answer m
-        (h, looks_here, (says ∙ found_at (state_of old).read h q takes.is_at, refl)))
+        (h, looks_here, (says h takes.is_at, refl)))
     search_line q answer (inr wants, same) lines lacks = lacking answer wants same lacks
 
     -- a get
@@ -149,7 +148,7 @@ module _ {D Y F B : Type 0} {of_disk : Disk.Ghosts D} {of_yard : Yard.Ghosts Y F
         let h = history_of base list in
         let m = n + a.reads_of (command.Get uri when.Front) h in
         looked m answer same (lines (turns_behind 0 list (look_turn ∷ [])) answer m
-        (h, looks_here, (says ∙ got_at (state_of old).read h uri takes.is_at, refl)))
+        (h, looks_here, (says h takes.is_at, refl)))
     get_line uri answer (inr wants, same) lines lacks = lacking answer wants same lacks
 
     -- a stamp
@@ -157,9 +156,8 @@ module _ {D Y F B : Type 0} {of_disk : Disk.Ghosts D} {of_yard : Yard.Ghosts Y F
         → Served1 new list n line (Some answer)
     stamp_line answer (says, same) lines =
         let h = history_of base list in
-        let is = takes.is_at in
         looked n answer same (lines (turns_behind 0 list (look_turn ∷ [])) answer n
-        (h, looks_here, says ∙ rw (is.front, is.merge) refl, refl))
+        (h, looks_here, says h takes.is_at, refl))
 
   -- what a command of a line uses, by its step
   command_line : (old new : Engine D Y F B of_disk of_yard of_file of_build) (list : List Turn) (n : ℕ) (line : List ℕ)

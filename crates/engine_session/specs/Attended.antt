@@ -1,14 +1,15 @@
 -- What a session did with an engine: the turns that it used, and what the engine is and its logs represent after them.
 use Rattle.std.specs.Io.KnownBytes.{Appends, Consumes, IsAtEnd}
-use Rattle.std.specs.Prelude.{ℕ, ◌≡◌, ◌+◌, ◌*◌, ◌^◌, ◌≤◌, Bool, List, length, All, None, IfSome, IsTrue}
+use Rattle.std.specs.Prelude.{ℕ, ◌≡◌, ◌+◌, ◌*◌, ◌^◌, ◌≤◌, Bool, List, length, All, None, Some, IfSome, IsTrue}
 use Rattle.disk_model.specs.Causes.{Rose}
+use Rattle.disk_model.specs.Files.{Files}
 use Rattle.disk_model.specs.declared.disk.Disk
 use Rattle.disk_model.specs.declared.streams.Sink
 use Rattle.disk_model.specs.declared.streams.Source
 use Rattle.disk_model.specs.declared.yard.Build
 use Rattle.disk_model.specs.declared.yard.SealedFile
 use Rattle.disk_model.specs.declared.yard.Yard
-use Rattle.doc_engine.specs.EngineState.{IsAt, disk_of, state_of, journal_of, yard_of}
+use Rattle.doc_engine.specs.EngineState.{IsAt, disk_of, down_since, files_of, journal_of, store_of, yard_of}
 use Rattle.doc_engine.specs.Opening.{begins}
 use Rattle.doc_engine.specs.Representing.{RepresentsHistory}
 use Rattle.doc_engine.specs.declared.engine.Engine.{Engine}
@@ -31,30 +32,30 @@ AreCounted before now turns =
 
 module _ {D Y F B : Type 0} {of_disk : Disk.Ghosts D} {of_yard : Yard.Ghosts Y F B} {of_file : SealedFile.Ghosts F}
     {of_build : Build.Ghosts B F} where
-  -- where the logs represented the base: what they represent after turns, and what a crash leaves since each of them; at
-  -- each moment since before them a crash leaves what shows the history of the first turns, some number of them, or it
-  -- with the entry that was broken off
-  pub record Keeps (old new : Engine D Y F B of_disk of_yard of_file of_build) (base : Base)
+  -- where with these files the logs represented the base: what they represent after turns, and what a crash leaves
+  -- since each of them; at each moment since before them a crash leaves what shows the history of the first turns, some
+  -- number of them, or it with the entry that was broken off
+  pub record Keeps (files : Files) (old new : Engine D Y F B of_disk of_yard of_file of_build) (base : Base)
       (turns : List Turn) : Type 0 where
-    pub represents : RepresentsHistory of_disk (journal_of new) (disk_of new) (history_of base turns)
+    pub represents : RepresentsHistory of_disk files (journal_of new) (disk_of new) (history_of base turns)
         (pending_of turns)
-    pub crash : Acknowledges of_disk base turns
-        (disk_of old) (disk_of new)
-    pub since : Since of_disk (disk_of old) (disk_of new) (ShowsFrom base turns 0)
+    pub crash : Acknowledges of_disk of_yard base turns (store_of old) (store_of new)
+    pub since : Since of_disk (disk_of old) (disk_of new) (ShowsFrom files base turns 0)
 
   -- turns of author 0 were taken with the engine
   pub record Takes (old new : Engine D Y F B of_disk of_yard of_file of_build) (base : Base) (longest : ℕ)
       (turns : List Turn) : Type 0 where
     pub own : All (λ turn. turn.author ≡ 0) turns
     pub legal : AreLegal base longest turns
-    pub is_at : IsAt (state_of new) (history_of base turns)
-    pub down : (state_of new).down ≡ down_of turns
+    pub is_at : IsAt new (history_of base turns)
+    pub down : down_since new ≡ down_of turns
     pub counts : AreCounted (of_disk.faults (disk_of old)) (of_disk.faults (disk_of new)) turns
     pub later : of_disk.faults (disk_of old) ≤ of_disk.faults (disk_of new)
     pub ends : end_of (current_log (journal_of new)) ≤ longest + 2 ^ 31 * length (history_of base turns).entries
     pub yard : yard_of new ≡ yard_of old
-    pub keeps : RepresentsHistory of_disk (journal_of old) (disk_of old) (begins base) None
-        → Keeps old new base turns
+    pub keeps : (files : Files) → files_of of_yard (yard_of old) ≡ Some files
+        → RepresentsHistory of_disk files (journal_of old) (disk_of old) (begins base) None
+        → Keeps files old new base turns
 
   -- a session was attended: it agrees with turns that were taken with the engine
   pub record Attended (old new : Engine D Y F B of_disk of_yard of_file of_build) (base : Base) (longest : ℕ)
@@ -79,6 +80,6 @@ module _ {D Y F B I O : Type 0} {of_disk : Disk.Ghosts D} {of_yard : Yard.Ghosts
     pub ended : HasEnded input output over how
     pub read_fault : how ≡ end.ReadFault → Rose (of_source.faults source) (of_source.faults source')
     pub write_fault : how ≡ end.WriteFault → Rose (of_sink.faults sink) (of_sink.faults sink')
-    pub attended : (base : Base) (longest : ℕ) → IsAt (state_of old) (begins base) → (state_of old).down ≡ None
+    pub attended : (base : Base) (longest : ℕ) → IsAt old (begins base) → down_since old ≡ None
         → end_of (current_log (journal_of old)) ≤ longest
         → Attended old new base longest input output over how

@@ -1,7 +1,11 @@
 -- The entry that a broken append may have left after turns, and what a crash leaves since each of them.
 use Rattle.std.specs.Prelude.{ℕ, ◌≡◌, ◌+◌, ◌≤◌, List, [], ◌∷◌, length, take, slice_get, Option, Some, None, IsSome}
+use Rattle.disk_model.specs.Files.{Files}
 use Rattle.disk_model.specs.Logs.{Image}
 use Rattle.disk_model.specs.declared.disk.Disk
+use Rattle.disk_model.specs.declared.world.Store.{Store}
+use Rattle.disk_model.specs.declared.yard.Yard
+use Rattle.doc_engine.specs.EngineState.{files_of}
 use Rattle.doc_engine.specs.Representing.{ShowsWith}
 use Rattle.doc_meaning.specs.History.{Base}
 use Rattle.doc_model.specs.declared.entry.Entry.{Entry}
@@ -51,30 +55,34 @@ pending_after earlier (turn ∷ turns) = pending_after (pending_behind earlier t
 abbrev pub pending_of : List Turn → Option Entry
 pending_of turns = pending_after None turns
 
--- an image shows the history of the first turns, at least so many of them, or it with the entry that was broken off
-pub record ShowsFrom (base : Base) (turns : List Turn) (least : ℕ) (image : Image) : Type 0 where
+-- with these files an image shows the history of the first turns, at least so many of them, or it with the entry that
+-- was broken off
+pub record ShowsFrom (files : Files) (base : Base) (turns : List Turn) (least : ℕ) (image : Image) : Type 0 where
   pub count : ℕ
   pub enough : least ≤ count
   pub some : count ≤ length turns
-  pub shows : ShowsWith (history_of base (take count turns)) (pending_of (take count turns)) image
+  pub shows : ShowsWith files (history_of base (take count turns)) (pending_of (take count turns)) image
 
--- the disk had a state after each turn, one after the other: in it each image shows the history of the turns up to it,
--- or it with the entry that was broken off; and a crash since then leaves that history at least. The first state is the
--- one before all turns, the last one is now
-pub record Acknowledges {D : Type 0} (of_disk : Disk.Ghosts D) (base : Base) (turns : List Turn) (old new : D)
-    : Type 0 where
-  pub states : List D
+-- the store had a state after each turn, one after the other: in it each image of the logs, with the files of the yard,
+-- shows the history of the turns up to it, or it with the entry that was broken off; and a crash since then leaves that
+-- history at least. The first state is the one before all turns, the last one is now
+pub record Acknowledges {D Y F B : Type 0} (of_disk : Disk.Ghosts D) (of_yard : Yard.Ghosts Y F B) (base : Base)
+    (turns : List Turn) (old new : Store D Y) : Type 0 where
+  pub states : List (Store D Y)
   pub each : length states ≡ length turns + 1
   pub first : slice_get states 0 ≡ Some old
   pub last : slice_get states (length turns) ≡ Some new
-  pub told : (k : ℕ) (state : D) → slice_get states k ≡ Some state → IsSome (of_disk.seen state)
-  pub later : (k : ℕ) (state next : D) → slice_get states k ≡ Some state → slice_get states (k + 1) ≡ Some next
-      → of_disk.moment state ≤ of_disk.moment next
-  pub past : (k : ℕ) (state : D) → slice_get states k ≡ Some state → of_disk.moment state ≤ of_disk.moment new
+  pub told : (k : ℕ) (state : Store D Y) → slice_get states k ≡ Some state → IsSome (of_disk.seen state.disk)
+  pub later : (k : ℕ) (state next : Store D Y) → slice_get states k ≡ Some state
+      → slice_get states (k + 1) ≡ Some next → of_disk.moment state.disk ≤ of_disk.moment next.disk
+  pub past : (k : ℕ) (state : Store D Y) → slice_get states k ≡ Some state
+      → of_disk.moment state.disk ≤ of_disk.moment new.disk
   -- what a crash might have left then counts among what might have been left since
-  pub stayed : (k : ℕ) (state : D) (c : Image) → slice_get states k ≡ Some state → of_disk.may_leave state c
-      → of_disk.left_since new (of_disk.moment state) c
-  pub shows : (k : ℕ) (state : D) (c : Image) → slice_get states k ≡ Some state → of_disk.may_leave state c
-      → ShowsWith (history_of base (take k turns)) (pending_of (take k turns)) c
-  pub left : (k : ℕ) (state : D) (c : Image) → slice_get states k ≡ Some state → of_disk.left_since new (of_disk.moment state) c
-      → ShowsFrom base turns k c
+  pub stayed : (k : ℕ) (state : Store D Y) (c : Image) → slice_get states k ≡ Some state
+      → of_disk.may_leave state.disk c → of_disk.left_since new.disk (of_disk.moment state.disk) c
+  pub shows : (k : ℕ) (state : Store D Y) (files : Files) (c : Image) → slice_get states k ≡ Some state
+      → files_of of_yard state.yard ≡ Some files → of_disk.may_leave state.disk c
+      → ShowsWith files (history_of base (take k turns)) (pending_of (take k turns)) c
+  pub left : (k : ℕ) (state : Store D Y) (files : Files) (c : Image) → slice_get states k ≡ Some state
+      → files_of of_yard new.yard ≡ Some files → of_disk.left_since new.disk (of_disk.moment state.disk) c
+      → ShowsFrom files base turns k c

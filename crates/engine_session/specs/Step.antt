@@ -1,19 +1,18 @@
 -- How an engine answers a command.
-use Rattle.std.specs.Option.{option_map_or}
 use Rattle.std.specs.Prelude.{ℕ, ◌≡◌, ◌⊎◌, List, Result, Ok, Err}
 use Rattle.disk_model.specs.declared.disk.Disk
 use Rattle.disk_model.specs.declared.yard.Build
 use Rattle.disk_model.specs.declared.yard.SealedFile
 use Rattle.disk_model.specs.declared.yard.Yard
 use Rattle.doc_engine.specs.Calls.{AnswersCommit, GrowsByCommit, KeepsRest, SameUnlessFault, SurvivesCommit}
-use Rattle.doc_engine.specs.EngineState.{ReadState, state_of}
-use Rattle.doc_engine.specs.Reads.{get_seen, search_seen}
+use Rattle.doc_engine.specs.EngineState.{IsAt}
 use Rattle.doc_engine.specs.declared.engine.Engine.{Engine}
 use Rattle.doc_engine.specs.declared.refusal.CommitRefusal.{CommitRefusal}
 use Rattle.doc_engine.specs.declared.refusal.CommitRefusal.TheVariants as refusal
 use Rattle.doc_model.specs.declared.op.Op.{Op}
 use Rattle.doc_model.specs.declared.query.Query.{Query}
-use Rattle.transcript.specs.Answers.{reply_of_version, reply_to_read}
+use Rattle.doc_meaning.specs.History.{History, front, merge}
+use Rattle.transcript.specs.Answers.{reply_to_get, reply_to_search}
 use Rattle.transcript.specs.declared.command.Command.{Command}
 use Rattle.transcript.specs.declared.command.Command.TheVariants as command
 use Rattle.transcript.specs.declared.command.When.TheVariants as when
@@ -30,15 +29,12 @@ said_of (Err (refusal.Spent front end)) = reply.Spent front
 said_of (Err refusal.Fault) = reply.Fault
 said_of (Err refusal.Memory) = reply.Memory
 
--- the reply to a search at the front of what is seen
-abbrev pub found_of : ReadState → Query → Reply
-found_of seen q = reply_to_read (λ uris. reply.Found seen.front seen.front uris) (search_seen seen q)
+-- the reply to a search, and to a get, at the front of a history
+abbrev pub found_at : History → Query → Reply
+found_at h q = reply_to_search q h (front h)
 
--- the reply to a get at the front of what is seen
-abbrev pub got_of : ReadState → List ℕ → Reply
-got_of seen uri = reply_to_read
-    (λ found. option_map_or (reply_of_version seen.front seen.front) found (reply.NoDoc seen.front seen.front))
-    (get_seen seen uri)
+abbrev pub got_at : History → List ℕ → Reply
+got_at h uri = reply_to_get uri h (front h)
 
 module _ {D Y F B : Type 0} {of_disk : Disk.Ghosts D} {of_yard : Yard.Ghosts Y F B} {of_file : SealedFile.Ghosts F}
     {of_build : Build.Ghosts B F} where
@@ -63,16 +59,16 @@ module _ {D Y F B : Type 0} {of_disk : Disk.Ghosts D} {of_yard : Yard.Ghosts Y F
   Step old (command.Commit ops) said new =
       (result : Result ℕ CommitRefusal) × (said ≡ said_of result) × HasCommitted old new ops result
   Step old (command.Get uri when.Front) said new =
-      ((said ≡ got_of (state_of old).read uri) ⊎ (said ≡ reply.Memory)) × (new ≡ old)
+      (((h : History) → IsAt old h → said ≡ got_at h uri) ⊎ (said ≡ reply.Memory)) × (new ≡ old)
   Step old (command.Get uri (when.At at)) said new = Later old said new
   Step old (command.Get uri when.Pinned) said new = Later old said new
   Step old (command.Search q when.Front) said new =
-      ((said ≡ found_of (state_of old).read q) ⊎ (said ≡ reply.Memory)) × (new ≡ old)
+      (((h : History) → IsAt old h → said ≡ found_at h q) ⊎ (said ≡ reply.Memory)) × (new ≡ old)
   Step old (command.Search q (when.At at)) said new = Later old said new
   Step old (command.Search q when.Pinned) said new = Later old said new
   Step old (command.Estimate q at) said new = Later old said new
   Step old command.Stamp said new =
-      (said ≡ reply.Stamp (state_of old).read.front (state_of old).read.merge) × (new ≡ old)
+      ((h : History) → IsAt old h → said ≡ reply.Stamp (front h) (merge h)) × (new ≡ old)
   Step old (command.Forget to) said new = Later old said new
   Step old command.Pin said new = Later old said new
   Step old command.Unpin said new = Later old said new

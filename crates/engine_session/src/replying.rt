@@ -1,7 +1,8 @@
 //! How an engine answers the commands of a session.
 
-ghost use Rattle.std.specs.Prelude.{◌≡◌};
-ghost use Rattle.doc_engine.specs.EngineState.{view_of};
+ghost use Rattle.std.specs.Prelude.{◌≡◌, ℕ};
+ghost use Rattle.doc_engine.specs.EngineState.{SeesSince};
+ghost use Rattle.doc_meaning.specs.History.{History, front};
 ghost use Rattle.engine_session.specs.Step.{Step};
 ghost use Rattle.transcript.specs.declared.reply.Reply.TheVariants as reply;
 
@@ -58,7 +59,7 @@ pub(crate) fn reply<D: Disk, Y: Yard>(
 
 // The front, and the timestamp below which nothing is read.
 fn stamp(seen: &Snapshot<'_>) -> Reply
-    ensures { result ≡ reply.Stamp (view_of seen.now).front (view_of seen.now).merge }
+    ensures { (since : ℕ) (h : History) → SeesSince seen.now since h → result ≡ reply.Stamp (front h) since }
 {
     Reply::Stamp {
         front: seen.stamp(),

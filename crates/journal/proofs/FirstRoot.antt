@@ -8,8 +8,8 @@ use Rattle.journal_bodies.proofs.Truths.{from_true}
 use Rattle.journal_bodies.specs.Roots.{PlainRoot, SpellsRoot, index, kind_byte, listed, long, numbers, part}
 use Rattle.journal_bodies.specs.Roots.{settings as settings_bytes}
 use Rattle.docs_format.specs.Spelling.{count, text}
-use Rattle.journal_meaning.specs.Shown.{first_root}
-use Rattle.journal_meaning.proofs.LengthLemmas.{length-count, length-listed, length-long, length-text}
+use Rattle.directory_meaning.specs.Shown.{first_root}
+use Rattle.directory_meaning.proofs.LengthLemmas.{length-count, length-listed, length-long, length-text}
 
 indexes_short : (indexes : List Index) → list_all (λ i. nat_lt (length i.0) (2 ^ 32)) indexes ≡ true
     → length (flat_map index indexes) ≤ (2 ^ 32 + 5) * length indexes

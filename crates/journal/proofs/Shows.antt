@@ -1,105 +1,112 @@
 -- Images that show the same.
-use Rattle.std.proofs.Common.{◌≡◌, ◌⊎◌, ⊎_elim, ◌<◌, refl, sym, subst, ℕ, Bool, IsTrue, Option, Some, None, IsSome, IfSome, arith}
-use Rattle.disk_model.specs.declared.disk.Disk
+use Rattle.std.proofs.Common.{refl, ◌⊎◌, inl, inr, ⊎_elim, ◌≤◌, ◌∙◌, ap₂, subst, subst₂, ℕ, List, [], Option, Some, None, IsSome, IfSome, arith}
+use Rattle.std.proofs.lemmas.List.{append-nil}
+use Rattle.disk_model.specs.Files.{Files}
 use Rattle.disk_model.specs.Logs.{Image}
-use Rattle.disk_model.specs.declared.disk.TheConstants.{LOG_COUNT}
-use Rattle.doc_meaning.specs.History.{Base, History}
 use Rattle.disk_model.specs.Stretches.{OnlyRead, Since}
-use Rattle.frame_log.proofs.Stretches.{throughout_then, throughout_weaker}
-use Rattle.journal_bodies.specs.Roots.{PlainRoot}
-use Rattle.journal_meaning.specs.Bodies.{Bodies, HasBodies, TellsEntries}
-use Rattle.journal_meaning.specs.Shown.{Shows, Tells, without_first}
-use Rattle.journal_meaning.proofs.OneLemmas.{one_frames, one_list_told, one_root_told, same_entries, same_root}
-use Rattle.journal_meaning.specs.Directories.{KeepsShown, ShowsAs}
+use Rattle.disk_model.specs.declared.disk.Disk
+use Rattle.doc_meaning.specs.History.{Base, History, front}
+use Rattle.directory_meaning.specs.Bodies.{Bodies, HasBodies, MayHaveBodies}
+use Rattle.directory_meaning.specs.Directories.{KeepsShown, ShowsAs}
+use Rattle.directory_meaning.specs.Laws.{no_bodies}
+use Rattle.directory_meaning.specs.Shown.{Shows, Tells, shown_from, without_first}
+use Rattle.directory_meaning.proofs.ShownLemmas.{one_is_told}
+use Rattle.frame_log.specs.Frames.{HasFrames, MayHave}
+use Rattle.frame_log.proofs.Stretches.{throughout_weaker}
+use Rattle.log_pair.specs.Bodies.{with_bodies}
+use Rattle.journal.proofs.Pairs.{each_file}
 
--- what bodies tell the same bodies tell
-same_told : (some others : Bodies) (h : History) → ((file : ℕ) → file < LOG_COUNT → some file ≡ others file) →
-    Tells some h → Tells others h
-same_told some others h same told = record {
-  root = told.root;
-  newest = same_root some others told.root (same 2 (omega arith)) (same 3 (omega arith)) told.newest;
-  base = told.base;
-  entries = same_entries some others told.root.checkpoint h.entries (same 0 (omega arith)) (same 1 (omega arith))
-      told.entries;
-  rules = told.rules;
-  horizon = told.horizon;
-}
+-- a log that may have the frames that are kept, and no others, has these
+has_kept : (kept : List (List ℕ)) (bytes : List ℕ) → MayHave kept [] bytes → HasFrames kept bytes
+has_kept kept bytes (inl has) = has
+has_kept kept bytes (inr has) = subst (λ bodies. HasFrames bodies bytes) (append-nil kept) has
 
--- bodies that tell one history tell the same ones, where they have the same roots
-module _ (some others : Bodies) (h : History) (one : Tells some h) (two : Tells others h) (first : some 2 ≡ others 2)
-    (second : some 3 ≡ others 3) where
-  tells_too : (g : History) → Tells some g → Tells others g
-  tells_too g told =
-      let newest = same_root some others told.root first second told.newest in
-      let here : one.root ≡ told.root = one_root_told some one.root told.root one.newest told.newest in
-      let there : two.root ≡ told.root = one_root_told others two.root told.root two.newest newest in
-      let moved : TellsEntries some told.root.checkpoint h.entries =
-      subst (λ (r : PlainRoot). TellsEntries some r.checkpoint h.entries) here one.entries in
-      let same : h.entries ≡ g.entries = one_list_told some told.root.checkpoint h.entries g.entries moved
-      told.entries in
+pub all_kept : (kept : Bodies) (image : Image) → MayHaveBodies kept no_bodies image → HasBodies kept image
+all_kept kept image may file lt = has_kept (kept file) (image file) (may file lt)
+
+some_kept : (kept : Bodies) (image : Image)
+    → MayHaveBodies (with_bodies kept 0 []) (with_bodies no_bodies 0 (kept 0)) image
+    → HasFrames [] (image 0) ⊎ HasFrames (kept 0) (image 0)
+    → HasBodies kept image ⊎ HasBodies (without_first kept) image
+some_kept kept image may (inl none) = inr (λ file lt. each_file file lt
+    (λ k. HasFrames (without_first kept k) (image k)) none
+    (has_kept (kept 1) (image 1) (may 1 (omega arith))) (has_kept (kept 2) (image 2) (may 2 (omega arith)))
+    (has_kept (kept 3) (image 3) (may 3 (omega arith))))
+some_kept kept image may (inr all) = inl (λ file lt. each_file file lt (λ k. HasFrames (kept k) (image k)) all
+    (has_kept (kept 1) (image 1) (may 1 (omega arith))) (has_kept (kept 2) (image 2) (may 2 (omega arith)))
+    (has_kept (kept 3) (image 3) (may 3 (omega arith))))
+
+-- an image whose first journal is being emptied has all of its frames or none
+pub kept_or_emptied : (kept : Bodies) (image : Image)
+    → MayHaveBodies (with_bodies kept 0 []) (with_bodies no_bodies 0 (kept 0)) image
+    → HasBodies kept image ⊎ HasBodies (without_first kept) image
+kept_or_emptied kept image may = some_kept kept image may (may 0 (omega arith))
+
+-- images whose frames tell one history show the same
+module _ (files : Files) (some others : Bodies) (h : History) (m : ℕ) (one : Tells files some h m)
+    (two : Tells files others h m) where
+  shows_too : (c d : Image) → HasBodies some c → HasBodies others d → (base : Base) → Shows files c base
+      → Shows files d base
+  shows_too c d has also base shows =
+      let same = one_is_told files c shows.bodies some shows.history h shows.merge m shows.has has shows.tells one in
       record {
-        root = told.root;
-        newest = newest;
-        base = told.base;
-        entries = subst (λ es. TellsEntries others told.root.checkpoint es) same
-            (subst (λ (r : PlainRoot). TellsEntries others r.checkpoint h.entries) there two.entries);
-        rules = told.rules;
-        horizon = told.horizon;
+        bodies = others;
+        history = h;
+        merge = m;
+        has = also;
+        tells = two;
+        ordered = subst₂ (λ g n. n ≤ front g) same.0 same.1 shows.ordered;
+        shown = shows.shown ∙ ap₂ shown_from same.1 same.0;
       }
 
-  pub shows_too : (c d : Image) → HasBodies some c → HasBodies others d → (base : Base) → Shows c base → Shows d base
-  shows_too c d has also base shows = record {
-    bodies = others;
-    history = shows.history;
-    has = also;
-    tells = tells_too shows.history (same_told shows.bodies some shows.history
-        (λ file lt. one_frames shows.bodies some c file shows.has has lt) shows.tells);
-    ordered = shows.ordered;
-    shown = shows.shown;
-  }
-
-pub shows_as : (some others : Bodies) (h : History) → Tells some h → Tells others h → some 2 ≡ others 2
-    → some 3 ≡ others 3 → (c d : Image) → HasBodies some c → HasBodies others d → ShowsAs c d
-shows_as some others h one two first second c d has also base = (
-  shows_too others some h two one (sym first) (sym second) d c also has base,
-  shows_too some others h one two first second c d has also base,
+pub shows_as : (files : Files) (some others : Bodies) (h : History) (m : ℕ) → Tells files some h m
+    → Tells files others h m → (c d : Image) → HasBodies some c → HasBodies others d → ShowsAs files c d
+shows_as files some others h m one two c d has also base = (
+  shows_too files others some h m two one d c also has base,
+  shows_too files some others h m one two c d has also base,
 )
 
 -- an image that is known
-pub with_told : {A : Type 0} {P : A → Type 0} (Q : Type 0) (o : Option A) → IsSome o → IfSome o P → ((x : A) → P x →
-    Q) → Q
+pub with_told : {A : Type 0} {P : A → Type 0} (Q : Type 0) (o : Option A) → IsSome o → IfSome o P
+    → ((x : A) → P x → Q) → Q
 with_told Q None told has go = absurd (cc)
 with_told Q (Some x) told has go = go x has
 
 -- an image, if it is known
-pub if_told : {A : Type 0} {P Q : A → Type 0} (o : Option A) → IfSome o P → (IsSome o → (x : A) → P x → Q x) → IfSome o Q
+pub if_told : {A : Type 0} {P Q : A → Type 0} (o : Option A) → IfSome o P → (IsSome o → (x : A) → P x → Q x)
+    → IfSome o Q
 if_told None has go = tt
 if_told (Some x) has go = go refl x has
 
 module _ {D : Type 0} (of_disk : Disk.Ghosts D) where
   -- what was only read shows what it showed
-  pub read_shows : (old new : D) → OnlyRead of_disk old new
-      → KeepsShown of_disk old new
-  read_shows old new read = throughout_weaker _ _ _ _ (of_disk.may_leave old)
-      (λ c. (d : Image) × of_disk.may_leave old d × ShowsAs d c) read.images
+  pub read_shows : (old new : D) → OnlyRead of_disk old new → KeepsShown of_disk old new
+  read_shows old new read files = throughout_weaker _ _ _ _ (of_disk.may_leave old)
+      (λ c. (d : Image) × of_disk.may_leave old d × ShowsAs files d c) read.images
       (λ c was. (c, was, λ base. ((λ is. is), (λ is. is))))
 
-  -- and so does what was cut, or lost the frames of its first log where none of them counts
-  pub ready_shows : (old mid new : D) (image : Image) (read : Bodies) (h : History) (resets : Bool) → of_disk.may_leave old
-      image
-      → HasBodies read image → Tells read h → (IsTrue resets → Tells (without_first read) h)
-      → OnlyRead of_disk old mid
-      → Since of_disk mid new
-      (λ c. HasBodies read c ⊎ (IsTrue resets × HasBodies (without_first read) c))
-      → KeepsShown of_disk old new
-  ready_shows old mid new image read h resets was has told lost only all =
-      throughout_then _ _ _ _ _ _ (λ c. (d : Image) × of_disk.may_leave old d × ShowsAs d c) (read_shows old mid only)
-      (throughout_weaker _ _ _ _ (λ c. HasBodies read c ⊎ (IsTrue resets × HasBodies (without_first read) c))
-      (λ c. (d : Image) × of_disk.may_leave old d × ShowsAs d c) all
-      (λ c is. (
-        image,
-        was,
-        ⊎_elim (λ (same : HasBodies read c). shows_as read read h told told refl refl image c has same)
-            (λ (none : IsTrue resets × HasBodies (without_first read) c). shows_as read (without_first read) h told
-            (lost none.0) refl refl image c has none.1) is,
-      )))
+  module _ (start old new : D) (image : Image) (read : Bodies) (h : History) (m : ℕ)
+      (was : of_disk.may_leave start image) (has : HasBodies read image) (files : Files)
+      (told : Tells files read h m) where
+    -- where the logs have the frames that were read, an image shows what was read
+    pub kept_shows : Since of_disk old new (MayHaveBodies read no_bodies)
+        → Since of_disk old new (λ c. (d : Image) × of_disk.may_leave start d × ShowsAs files d c)
+    kept_shows all = throughout_weaker _ _ _ _ (MayHaveBodies read no_bodies)
+        (λ c. (d : Image) × of_disk.may_leave start d × ShowsAs files d c) all
+        (λ c may. (image, was, shows_as files read read h m told told image c has (all_kept read c may)))
+
+    -- so it does while the first journal is emptied, where none of its entries counts
+    pub emptied_shows : Tells files (without_first read) h m
+        → Since of_disk old new (MayHaveBodies (with_bodies read 0 []) (with_bodies no_bodies 0 (read 0)))
+        → Since of_disk old new (λ c. (d : Image) × of_disk.may_leave start d × ShowsAs files d c)
+    emptied_shows lost all = throughout_weaker _ _ _ _
+        (MayHaveBodies (with_bodies read 0 []) (with_bodies no_bodies 0 (read 0)))
+        (λ c. (d : Image) × of_disk.may_leave start d × ShowsAs files d c) all
+        (λ c may. (
+          image,
+          was,
+          ⊎_elim (λ (same : HasBodies read c). shows_as files read read h m told told image c has same)
+              (λ (none : HasBodies (without_first read) c).
+              shows_as files read (without_first read) h m told lost image c has none)
+              (kept_or_emptied read c may),
+        ))

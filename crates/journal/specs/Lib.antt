@@ -1,11 +1,10 @@
+pub mod Gates
 pub mod JournalStates
 pub mod Calls
-pub mod Reading
 pub mod Refusals
 pub mod LogReading
+pub mod Reading
 pub mod Refusing
-pub mod RootReading
-pub mod EntryReading
 pub mod Opening
 pub mod Assembling
 pub mod Making

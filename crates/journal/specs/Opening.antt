@@ -1,60 +1,65 @@
 -- What opening and making a directory's logs does.
-use Rattle.std.specs.Prelude.{ℕ, ◌≡◌, ◌≢◌, ◌⊎◌, ◌↔◌, ◌+◌, ◌<◌, Bool, IsTrue, List, map, IsSome, IfSome, if◌then◌else◌}
-use Rattle.disk_model.specs.declared.disk.Disk
+use Rattle.std.specs.Prelude.{ℕ, ◌≡◌, ◌≢◌, ◌+◌, Bool, List, map, Option, option_map, None, Some, IsSome, IfSome, if◌then◌else◌}
+use Rattle.disk_model.specs.Files.{Files}
 use Rattle.disk_model.specs.Logs.{Image}
-use Rattle.disk_model.specs.declared.disk.TheConstants.{LOG_COUNT}
-use Rattle.doc_model.specs.declared.settings.Settings.{Settings}
-use Rattle.doc_meaning.specs.History.{Base, BaseSettings, History, empty_base}
-use Rattle.frame_log.specs.LogStates.{IsTrimmed}
 use Rattle.disk_model.specs.Stretches.{OnlyRead}
+use Rattle.disk_model.specs.declared.disk.Disk
+use Rattle.doc_meaning.specs.History.{History}
+use Rattle.doc_model.specs.declared.settings.Settings.{Settings}
+use Rattle.directory_meaning.specs.Bodies.{Bodies, HasBodies, IsJournal, Numbered, RiseFrom, TellsRoot, other_of, past}
+use Rattle.directory_meaning.specs.Current.{Chooses}
+use Rattle.directory_meaning.specs.Damages.{FindsNewest}
+use Rattle.directory_meaning.specs.Directories.{HasNoRoot}
+use Rattle.directory_meaning.specs.Laws.{no_bodies}
+use Rattle.directory_meaning.specs.Shown.{IsBaseOf, Tells, TellsAt, first_root, only_body, without_first}
+use Rattle.directory_reading.specs.Reading.{frozen_of}
+use Rattle.frame_log.specs.LogStates.{file_of}
+use Rattle.journal.specs.JournalStates.{AreTrimmed, AreUp, AreWithin, LogsRepresent, current_of, owed_of, root_log}
 use Rattle.journal.specs.Refusing.{NotMade, NotScanned}
+use Rattle.journal.specs.declared.journal.Journal.{Journal}
+use Rattle.journal.specs.declared.opening.Scanned.{Scanned}
 use Rattle.journal.specs.declared.refusal.JournalRefusal.{JournalRefusal}
 use Rattle.journal.specs.declared.refusal.JournalRefusal.TheVariants as refusal
 use Rattle.journal.specs.declared.refusal.MakeRefusal.{MakeRefusal}
 use Rattle.journal.specs.declared.refusal.MakeRefusal.TheVariants as make
-use Rattle.journal_meaning.specs.Directories.{HasNoRoot}
-use Rattle.journal.specs.JournalStates.{AreUp, AreWithin, LogsRepresent, current_of, log_of, owed_of}
-use Rattle.journal.specs.declared.journal.Journal.{Journal}
-use Rattle.journal.specs.declared.opening.Scanned.{Scanned}
 use Rattle.journal_bodies.specs.Roots.{SpellsRoot}
-use Rattle.journal_meaning.specs.Bodies.{Bodies, HasBodies, IsJournal, Numbered, RiseFrom, TellsRoot, past}
-use Rattle.journal_meaning.specs.Current.{Chooses, last_of}
-use Rattle.journal_meaning.specs.Damages.{other_of}
-use Rattle.journal_meaning.specs.Laws.{no_bodies}
-use Rattle.journal_meaning.specs.Shown.{IsBaseOf, Shows, Tells, TellsAt, first_root, only_body, without_first}
 
--- the root and the entries are those of this history
-pub record Scans (bodies : Bodies) (h : History) (scanned : Scanned) : Type 0 where
-  pub tells : Tells bodies h
+-- the root and the entries are those of this history, whose readers go back to this merge timestamp
+pub record Scans (files : Files) (bodies : Bodies) (h : History) (merge : ℕ) (scanned : Scanned) : Type 0 where
+  pub tells : Tells files bodies h merge
   pub newest : TellsRoot bodies scanned.root
-  pub base : IsBaseOf scanned.root h.base
+  pub base : IsBaseOf files scanned.root h.base
   pub entries : h.entries ≡ map (λ e. e.1) scanned.entries.items
   pub numbers : RiseFrom (h.base.front + 1) scanned.entries.items
 
--- the entries choose the current journal, and the other one is frozen if it has entries past the checkpoint
-pub record GoesOnWith (read : Bodies) (scanned : Scanned) (journal : Journal) (resets : Bool) : Type 0 where
+-- the root log with the newest root is current. The entries choose the journal that takes the next one, and the other
+-- one is frozen if it has entries past the checkpoint
+pub record GoesOnWith (read : Bodies) (scanned : Scanned) (journal : Journal) (file : ℕ) (resets : Bool) : Type 0 where
   pub entries_0 : List Numbered
   pub entries_1 : List Numbered
   pub first_journal : IsJournal (read 0) entries_0
   pub second_journal : IsJournal (read 1) entries_1
-  pub chooses : Chooses scanned.root.checkpoint entries_0 entries_1 (current_of journal) resets
-  pub last : scanned.frozen ≡ last_of (past scanned.root.checkpoint (other_of (current_of journal) entries_0 entries_1))
-  pub is_frozen : IsTrue journal.frozen ↔ IsSome scanned.frozen
+  pub chooses : Chooses scanned.root.checkpoint entries_0 entries_1 file resets
+  pub last : scanned.frozen
+      ≡ frozen_of scanned.root.merge (past scanned.root.checkpoint (other_of file entries_0 entries_1))
+  pub frozen : journal.frozen ≡ option_map (λ f. f.entry) scanned.frozen
+  pub newest : (k : ℕ) × FindsNewest read scanned.root (file_of (root_log journal)) k
 
 module _ {D : Type 0} (of_disk : Disk.Ghosts D) where
   -- the logs have the frames that were read, except those of a journal that was reset; no bytes follow them, and the
   -- next entry can be appended
-  pub record Opened (image : Image) (disk : D) (journal : Journal) (scanned : Scanned) : Type 0 where
+  pub record Opened (files : Files) (image : Image) (disk : D) (journal : Journal) (scanned : Scanned) : Type 0 where
     pub read : Bodies
     pub history : History
+    pub merge : ℕ
     pub resets : Bool
     pub has : HasBodies read image
-    pub scans : Scans read history scanned
-    pub goes_on : GoesOnWith read scanned journal resets
+    pub scans : Scans files read history merge scanned
+    pub goes_on : GoesOnWith read scanned journal (current_of journal) resets
     pub up : AreUp journal
     pub represents : LogsRepresent of_disk journal disk (if resets then without_first read else read) no_bodies
-    pub tells : TellsAt (if resets then without_first read else read) (current_of journal) history
-    pub trimmed : (file : ℕ) → file < LOG_COUNT → IsTrimmed (log_of journal file) (of_disk.seen disk) (of_disk.may_leave disk)
+    pub tells : TellsAt files (if resets then without_first read else read) (current_of journal) history merge
+    pub trimmed : AreTrimmed journal (of_disk.seen disk) (of_disk.may_leave disk)
 
   -- the logs have the first root alone, and journal 0 takes the first entry
   pub record Made (settings : Settings) (disk : D) (journal : Journal) : Type 0 where
@@ -65,10 +70,12 @@ module _ {D : Type 0} (of_disk : Disk.Ghosts D) where
     pub current : current_of journal ≡ 0
     pub owes : owed_of journal ≡ 0
 
-  -- the logs were opened: they are up, and show the history of the image if the disk's content is known
+  -- the logs were opened: they are up, nothing is broken off, and they tell what the image told, if the disk's content
+  -- is known. The newest root names no files so far, so this holds whatever files are kept
   pub record OpensLogs (old new : D) (journal : Journal) (scanned : Scanned) : Type 0 where
-    pub found : IfSome (of_disk.seen old) (λ image. Opened image new journal scanned)
+    pub found : IfSome (of_disk.seen old) (λ image. (files : Files) → Opened files image new journal scanned)
     pub up : AreUp journal
+    pub whole : journal.broken_off ≡ None
     pub within : AreWithin journal (of_disk.seen new)
     pub rises : RiseFrom (scanned.root.checkpoint + 1) scanned.entries.items
 
@@ -77,10 +84,12 @@ module _ {D : Type 0} (of_disk : Disk.Ghosts D) where
     pub reason : IfSome (of_disk.seen old) (λ image. NotScanned image why)
     pub kept : IsSome (of_disk.seen old) → why ≢ refusal.Fault → OnlyRead of_disk old new
 
-  -- the logs of an empty database were made: they are up, and there was no root if the disk's content is known
+  -- the logs of an empty database were made: they are up, nothing is broken off, and there was no root if the disk's
+  -- content is known
   pub record MakesLogs (settings : Settings) (old new : D) (journal : Journal) : Type 0 where
     pub made : IfSome (of_disk.seen old) (λ image. HasNoRoot image × Made settings new journal)
     pub up : AreUp journal
+    pub whole : journal.broken_off ≡ None
     pub within : AreWithin journal (of_disk.seen new)
 
   -- the logs weren't made for this reason, and the disk was only read unless it failed

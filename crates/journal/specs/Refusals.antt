@@ -7,8 +7,8 @@ use Rattle.journal.specs.declared.refusal.JournalRefusal.{JournalRefusal}
 use Rattle.journal.specs.declared.refusal.JournalRefusal.TheVariants as journal
 use Rattle.journal.specs.declared.refusal.MakeRefusal.{MakeRefusal}
 use Rattle.journal.specs.declared.refusal.MakeRefusal.TheVariants as make
-use Rattle.journal_reading.specs.declared.unread.LogBad.{LogBad}
-use Rattle.journal_reading.specs.declared.unread.LogBad.TheVariants as read
+use Rattle.directory_reading.specs.declared.unread.LogBad.{LogBad}
+use Rattle.directory_reading.specs.declared.unread.LogBad.TheVariants as read
 
 -- the refusal of a scan of this log
 abbrev pub of_scan : ℕ → ScanRefusal → LogBad

@@ -7,14 +7,14 @@ use Rattle.journal.specs.declared.refusal.JournalRefusal.{JournalRefusal}
 use Rattle.journal.specs.declared.refusal.JournalRefusal.TheVariants as refusal
 use Rattle.journal.specs.declared.refusal.MakeRefusal.{MakeRefusal}
 use Rattle.journal.specs.declared.refusal.MakeRefusal.TheVariants as make
-use Rattle.journal_reading.specs.declared.unread.LogBad.{LogBad}
-use Rattle.journal_reading.specs.declared.unread.LogBad.TheVariants as unread
-use Rattle.journal_meaning.specs.Damages.{AreBadRootLogs, Damages, IsEntryLog, JournalBreaks}
-use Rattle.journal_meaning.specs.Directories.{HasNoRoot, IsTaken}
+use Rattle.directory_reading.specs.declared.unread.LogBad.{LogBad}
+use Rattle.directory_reading.specs.declared.unread.LogBad.TheVariants as unread
+use Rattle.directory_meaning.specs.Damages.{AreBadRootLogs, Damages, IsEntryLog, JournalBreaks, NamesFilesSoFar}
+use Rattle.directory_meaning.specs.Directories.{HasNoRoot, IsTaken}
 
--- the bytes of this file break a rule at this place
+-- the bytes of this file break a rule at this place; or, for as long as no files are written, the newest root names files
 abbrev pub AreDamaged : Image → FileName → ℕ → Type 0
-AreDamaged image (Log file) place = Damages image file place
+AreDamaged image (Log file) place = Damages image file place ⊎ NamesFilesSoFar image file place
 AreDamaged image (Sealed number) place = ⊥
 
 -- the bytes of this root log break a rule at this place

@@ -1,6 +1,9 @@
-//! The logs of a directory: two journals of entries, and two logs of roots.
+//! The logs of a directory: a pair of journals, whose frames are entries, and a pair of root logs.
 #![tactic(auto)]
 
+mod asking;
+mod broken_off;
+mod calls;
 mod journal;
 mod journals;
 mod making;
@@ -9,8 +12,8 @@ mod reading;
 mod refusal;
 mod root_logs;
 mod syncing;
-mod trimming;
 
+pub use broken_off::BrokenOff;
 pub use journal::Journal;
 pub use making::make;
 pub use opening::{Scanned, scan_all};

@@ -1,29 +1,30 @@
 //! Making the logs of an empty database.
 
-ghost use Rattle.std.specs.Prelude.{◌≡◌, ◌≢◌, ◌⊎◌, ◌↔◌, [], IsTrue, IsSome, IfSome, IfOk, IfErr};
+ghost use Rattle.std.specs.Prelude.{◌≡◌, ◌⊎◌, IsSome, IfSome, IfOk, IfErr};
+ghost use Rattle.directory_meaning.specs.Directories.{HasNoRoot, IsUsed, MakesShown};
+ghost use Rattle.directory_meaning.specs.Laws.{no_bodies};
+ghost use Rattle.directory_meaning.specs.Shown.{first_root};
 ghost use Rattle.disk_model.specs.Causes.{HasCause};
+ghost use Rattle.disk_model.specs.Stretches.{OnlyRead, Since};
 ghost use Rattle.doc_meaning.specs.History.{settings_of};
+ghost use Rattle.doc_model.specs.Settings.{HasShortNames};
 ghost use Rattle.frame_log.specs.Calls.{Blames};
 ghost use Rattle.frame_log.specs.LogStates.{IsEmpty, IsUp, IsWithin, file_of};
-ghost use Rattle.disk_model.specs.Stretches.{OnlyRead, Since};
-ghost use Rattle.journal.specs.Making.{IsEmptyJournal};
-ghost use Rattle.doc_model.specs.Settings.{HasShortNames};
-ghost use Rattle.journal_meaning.specs.Directories.{IsUsed, HasNoRoot, MakesShown};
-ghost use Rattle.journal.specs.Opening.{MakesLogs, RefusesNewLogs};
 ghost use Rattle.journal.specs.JournalStates.{AreWithin, LogsRepresent};
+ghost use Rattle.journal.specs.Making.{IsEmptyJournal};
+ghost use Rattle.journal.specs.Opening.{MakesLogs, RefusesNewLogs};
 ghost use Rattle.journal.specs.declared.refusal.MakeRefusal.TheVariants.{Fault};
 ghost use Rattle.journal_bodies.specs.Roots.{SpellsRoot};
-ghost use Rattle.journal_meaning.specs.Laws.{no_bodies};
-ghost use Rattle.journal_meaning.specs.Shown.{first_root};
 
 use crate::journal::Journal;
 use crate::refusal::MakeRefusal;
-use crate::root_logs::{RootLogs, read_root_logs};
+use crate::root_logs::read_root_logs;
 use crate::syncing::settle;
 use disk_model::{Disk, Failed};
 use doc_model::Settings;
 use frame_log::{Frame, Log};
 use journal_bodies::{Root, root_body};
+use log_pair::{Current, LogPair};
 use sqlite_items::Items;
 use std::alloc::{AllocError, Global};
 
@@ -44,20 +45,13 @@ pub fn make<D: Disk>(
     ensures cause { Blames Fault (D.faults disk.old) (D.faults disk.new) result }
 {
     let roots = read_root_logs(alloc, disk)?;
-    if !are_empty(&roots) {
+    if roots.newest.is_some() {
         return Err(MakeRefusal::AlreadyThere);
     }
     let frame = first_frame(alloc, settings)?;
-    let mut journal = empty_journal(disk, roots.first.log, roots.second.log)?;
-    journal.append_root(disk, &frame)?;
+    let mut journal = empty_journal(disk, roots.first, roots.second)?;
+    journal.append_root(disk, &frame, 0)?;
     Ok(journal)
-}
-
-// Whether no root log has a root.
-fn are_empty(roots: &RootLogs) -> bool
-    ensures { IsTrue result ↔ ((roots.now.first.roots.items ≡ []) × (roots.now.second.roots.items ≡ [])) }
-{
-    roots.first.roots.is_empty() && roots.second.roots.is_empty()
 }
 
 // The frame of the first root.
@@ -98,11 +92,9 @@ fn empty_journal<D: Disk>(disk: &mut D, root_0: Log, root_1: Log) -> Result<Jour
     let journal_0 = Log::blank(disk, 0)?;
     let journal_1 = Log::blank(disk, 1)?;
     Ok(Journal {
-        journal_0,
-        journal_1,
-        root_0,
-        root_1,
-        current: 0,
-        frozen: false,
+        entries: LogPair::new(journal_0, journal_1, Current::First),
+        roots: LogPair::new(root_0, root_1, Current::First),
+        frozen: None,
+        broken_off: None,
     })
 }

@@ -3,9 +3,9 @@
 ghost use Rattle.std.specs.Prelude.{◌≡◌};
 ghost use Rattle.journal.specs.Refusals.{of_scan};
 
+use directory_reading::LogBad;
 use disk_model::{Failed, FileName};
 use frame_log::{LogRefusal, ScanRefusal};
-use journal_reading::LogBad;
 use std::alloc::AllocError;
 use thiserror::Error;
 

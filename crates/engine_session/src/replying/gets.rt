@@ -1,9 +1,10 @@
 //! Replies to gets.
 
 ghost use Rattle.std.specs.Prelude.{◌≡◌, ◌⊎◌, IfOk, map};
-ghost use Rattle.doc_engine.specs.EngineState.{view_of};
+ghost use Rattle.doc_engine.specs.EngineState.{Sees};
+ghost use Rattle.doc_meaning.specs.History.{History};
 ghost use Rattle.doc_model.specs.declared.node.Node.TheVariants as node;
-ghost use Rattle.engine_session.specs.Step.{got_of};
+ghost use Rattle.engine_session.specs.Step.{got_at};
 ghost use Rattle.transcript.specs.Answers.{reply_of_version};
 ghost use Rattle.transcript.specs.declared.reply.Reply.TheVariants as reply;
 
@@ -16,7 +17,7 @@ use transcript::Reply;
 
 // The live version of a URI, in time and memory of its size.
 pub(crate) fn get(alloc: Global, seen: &Snapshot<'_>, uri: &Text) -> Reply
-    ensures { (result ≡ got_of (view_of seen.now) uri.now) ⊎ (result ≡ reply.Memory) }
+    ensures { ((h : History) → Sees seen.now h → result ≡ got_at h uri.now) ⊎ (result ≡ reply.Memory) }
 {
     let front = seen.stamp();
     match seen.get(uri) {

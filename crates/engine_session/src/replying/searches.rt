@@ -1,8 +1,9 @@
 //! Replies to searches.
 
 ghost use Rattle.std.specs.Prelude.{◌≡◌, ◌⊎◌};
-ghost use Rattle.doc_engine.specs.EngineState.{view_of};
-ghost use Rattle.engine_session.specs.Step.{found_of};
+ghost use Rattle.doc_engine.specs.EngineState.{Sees};
+ghost use Rattle.doc_meaning.specs.History.{History};
+ghost use Rattle.engine_session.specs.Step.{found_at};
 ghost use Rattle.json_text.specs.Canonical.{quoted};
 ghost use Rattle.transcript.specs.Answers.{reply_to_bad};
 ghost use Rattle.transcript.specs.declared.reply.Reply.TheVariants as reply;
@@ -15,7 +16,7 @@ use transcript::Reply;
 
 // What is found at the front, or why it can't be searched.
 pub(crate) fn search(alloc: Global, seen: &Snapshot<'_>, query: &Query) -> Reply
-    ensures { (result ≡ found_of (view_of seen.now) query.now) ⊎ (result ≡ reply.Memory) }
+    ensures { ((h : History) → Sees seen.now h → result ≡ found_at h query.now) ⊎ (result ≡ reply.Memory) }
 {
     let front = seen.stamp();
     match seen.search(alloc, query) {

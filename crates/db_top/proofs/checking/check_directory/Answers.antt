@@ -19,7 +19,7 @@ returns-in-Ok-put_store-clause-checks g c =
             others = took.others;
           })
           (record { stores = refl; directories = refl; stored = refl })
-          (Checks g.W.Disk.Disk c.check-store.result.1.bytes)
+          (Checks g.W.Disk.Disk g.W.Yard.Yard c.check-store.result.1.bytes)
           c.check-store.result.0 c.check-store.result.2 c.check-store.ensures
           (record { back = put.back; directories = put.directories; others = put.others }) put.stored);
       clients = cc;
@@ -41,7 +41,7 @@ returns-in-Err-clause-checks g c =
             others = took.others;
           })
           (record { stores = refl; directories = refl; stored = refl })
-          (Checks g.W.Disk.Disk c.check-store.result.1.bytes)
+          (Checks g.W.Disk.Disk g.W.Yard.Yard c.check-store.result.1.bytes)
           c.check-store.result.0 c.check-store.result.2 c.check-store.ensures
           put.directories put.others put.back (rose_since (g.W.World.faults c.args.world.now)
           (g.W.World.faults c.take_store.new.self) (g.W.World.faults c.put_store.new.self) took.cause.later

@@ -6,7 +6,7 @@ use Rattle.db_top.proofs.making.make.Goals as goal
 pub returns-in-Ok : goal.returns-in-Ok
 returns-in-Ok g c =
     let made = c.in-Ok.ensures in
-    makes_created (settings_of c.args.settings) c.args.store c.close.result c.in-Ok.engine made.answers made.images
+    makes_created (settings_of c.args.settings) c.in-Ok.engine c.args.store c.close.result made.answers made.images
     made.later (sym c.close.ensures.disk) (c.close.ensures.yard ∙ made.yard)
 
 pub returns-in-Err : goal.returns-in-Err

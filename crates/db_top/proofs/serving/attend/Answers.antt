@@ -6,7 +6,7 @@ pub returns-in-Ok : goal.returns-in-Ok
 returns-in-Ok g c =
     let before = c.in-Ok.ensures in
     let during = c.serve-engine.ensures in
-    serves_opened g.D.Disk g.I.Source g.O.Sink c.args.store c.args.client.now
+    serves_opened g.D.Disk g.Y.Yard g.I.Source g.O.Sink c.args.store c.args.client.now
     (record { source = c.serve-engine.new.source; sink = c.serve-engine.new.sink; port = c.args.client.now.port })
     c.in-Ok.engine c.serve-engine.result.0 c.serve-engine.result.1
     (record { directory = before.answers; shown = before.images; yard = before.yard; later = before.later })

@@ -11,7 +11,13 @@ returns-in-Ok-put_store-clause-serves g c =
     let put = c.in-Ok-put_store.ensures in
     inl (lends_store g.W.Disk.Disk g.W.Yard.Yard g.W.Source.Source g.W.Sink.Sink g.W.World c.args.directory.now
     c.args.world.now c.take_store.new.self c.with_client-store.new.world c.put_store.new.self c.in-Ok.store c.requires
-    (record { out = took.out; named = took.directory; was_stored = took.was_stored; blank = took.blank; others = took.others })
+    (record {
+      out = took.out;
+      named = took.directory;
+      was_stored = took.was_stored;
+      blank = took.blank;
+      others = took.others;
+    })
     during.still
     (ServesClient g.W.Disk.Disk g.W.Yard.Yard g.W.Source.Source g.W.Sink.Sink g.W.World c.args.world.now
     c.put_store.new.self)
@@ -30,7 +36,13 @@ returns-in-Err-clause-serves g c =
     rw c.lost.ensures
     (inl (loses_store g.W.Disk.Disk g.W.Yard.Yard g.W.Source.Source g.W.Sink.Sink g.W.World c.args.directory.now
     c.args.world.now c.take_store.new.self c.with_client-store.new.world c.put_store.new.self c.in-Ok.store c.requires
-    (record { out = took.out; named = took.directory; was_stored = took.was_stored; blank = took.blank; others = took.others })
+    (record {
+      out = took.out;
+      named = took.directory;
+      was_stored = took.was_stored;
+      blank = took.blank;
+      others = took.others;
+    })
     during.still
     (ServesClient g.W.Disk.Disk g.W.Yard.Yard g.W.Source.Source g.W.Sink.Sink g.W.World c.args.world.now
     c.put_store.new.self)

@@ -2,7 +2,7 @@ use Rattle.std.proofs.Common.{◌≡◌, ◌+◌, length, map}
 use Rattle.std.specs.FinMap.{empty}
 use Rattle.std.specs.Vec.Iter.{into_iter_items, into_iter_len}
 use Rattle.doc_meaning.specs.History.{after_entries, merge_after}
-use Rattle.journal_meaning.specs.Bodies.{RiseFrom}
+use Rattle.directory_meaning.specs.Bodies.{RiseFrom}
 use Rattle.doc_engine.proofs.restoring.restore.Given as goal
 
 abbrev pub invariant-loop-number : goal.invariant-loop-number

@@ -1,13 +1,96 @@
+use Rattle.std.proofs.Common.{◌∙◌, arith}
 use Rattle.std.proofs.lemmas.Result.{err_from_is_err_and}
-use Rattle.frame_log.proofs.ReadLemmas.{if_some}
-use Rattle.journal_meaning.specs.Damages.{AreBadEntries}
-use Rattle.journal_reading.specs.Reading.{items_of}
-use Rattle.journal.proofs.LogReads.{bodies_unread}
+use Rattle.frame_log.specs.FramesRead.{MovesPast}
+use Rattle.frame_log.proofs.ReadLemmas.{only_read_more}
+use Rattle.directory_meaning.specs.Damages.{AreEntryBodies, IsBadEntry}
+use Rattle.directory_meaning.proofs.BreakLemmas.{entry_breaks}
+use Rattle.directory_reading.specs.Reading.{HasEntries}
+use Rattle.directory_reading.specs.declared.unread.LogBad.TheVariants.{Fault}
+use Rattle.journal.proofs.LogLoops.{blames_body, blames_none, blames_since, body_unread, frame_unread, keeps_length, read_next, read_none, read_whole}
 use Rattle.journal.proofs.reading.read_entries.Goals as goal
 
-pub returns-in_err-entries-clause-refused : goal.returns-in_err-entries-clause-refused
-returns-in_err-entries-clause-refused g c =
-    let error = err_from_is_err_and c.from_residual-in_err-entries.result c.from_residual-in_err-entries.ensures.1 in
-    rw (error.1, error.2) (if_some (g.D.Disk.seen c.args.disk.now) c.in_ok-read.ensures.log.frames
-    (λ image frames. bodies_unread AreBadEntries image c.args.file (items_of c.in_ok-read.read.bodies.items)
-    c.in_err-entries.field-0.0 frames (rw c.deref.ensures.value at c.in_err-entries.ensures)))
+pub loop-entries-init : goal.loop-entries-init
+loop-entries-init g c =
+    read_none g.D.Disk c.args.disk.now c.begin.new.disk c.args.file c.in_ok-reader.reader
+    (λ bodies. HasEntries bodies c.new-entries.result) c.new-entries.ensures
+    c.begin.ensures.read c.begin.ensures.cause.later c.in_ok-reader.ensures.start c.in_ok-reader.ensures.first
+
+pub next_body-requires-clause-length : goal.next_body-requires-clause-length
+next_body-requires-clause-length g c κs within = keeps_length g.D.Disk _ _ _ _ _ c.loop-entries.invariant
+
+-- no whole frame follows
+pub returns-in_err-body-clause-refused : goal.returns-in_err-body-clause-refused
+returns-in_err-body-clause-refused g c =
+    let far = c.loop-entries.invariant in
+    let p = err_from_is_err_and c.from_residual-in_err-body.result c.from_residual-in_err-body.ensures.1 in
+    rw (p.1, p.2) (frame_unread g.D.Disk _ _ _ _ _ far AreEntryBodies IsBadEntry
+    (c.loop-entries.entries.entries.items, far.found.journal) c.next_body.new.reader c.in_err-body.field-0.0
+    c.in_err-body.ensures.found)
+
+pub returns-in_err-body-clause-read : goal.returns-in_err-body-clause-read
+returns-in_err-body-clause-read g c =
+    only_read_more g.D.Disk _ _ _ c.loop-entries.invariant.read c.next_body.ensures.read
+
+pub returns-in_err-body-clause-cause : goal.returns-in_err-body-clause-cause
+returns-in_err-body-clause-cause g c =
+    let p = err_from_is_err_and c.from_residual-in_err-body.result c.from_residual-in_err-body.ensures.1 in
+    rw (p.1, p.2) (blames_since Fault _ _ _ _ c.loop-entries.invariant.later c.in_err-body.ensures.cause)
+
+-- an invalid body follows
+pub returns-in_err-take-clause-refused : goal.returns-in_err-take-clause-refused
+returns-in_err-take-clause-refused g c =
+    let far = c.loop-entries.invariant in
+    let p = err_from_is_err_and c.from_residual-in_err-take.result c.from_residual-in_err-take.ensures.1 in
+    let unread = rw c.deref.ensures.value
+    at (c.in_err-take.ensures far.bodies far.found (c.gate-gate.ensures.place ∙ far.place)) in
+    rw (p.1, p.2) (body_unread g.D.Disk _ _ _ _ _ far AreEntryBodies IsBadEntry
+    (c.loop-entries.entries.entries.items, far.found.journal) c.next_body.new.reader entry_breaks c.in-Some.body
+    c.gate-gate.result c.in_err-take.field-0.0
+    (rw c.in-Some.is at c.in_ok-body.ensures.found) (rw c.in-Some.is at c.in_ok-body.ensures.moves)
+    c.gate-gate.ensures.place unread)
+
+pub returns-in_err-take-clause-read : goal.returns-in_err-take-clause-read
+returns-in_err-take-clause-read g c =
+    only_read_more g.D.Disk _ _ _ c.loop-entries.invariant.read c.next_body.ensures.read
+
+pub returns-in_err-take-clause-cause : goal.returns-in_err-take-clause-cause
+returns-in_err-take-clause-cause g c =
+    let far = c.loop-entries.invariant in
+    let p = err_from_is_err_and c.from_residual-in_err-take.result c.from_residual-in_err-take.ensures.1 in
+    rw (p.1, p.2) (blames_body _ c.in_err-take.field-0.0 _ _ (omega (arith, far.later, c.next_body.ensures.cause.later))
+    (c.in_err-take.ensures far.bodies far.found (c.gate-gate.ensures.place ∙ far.place)))
+
+pub loop-entries-smaller : goal.loop-entries-smaller
+loop-entries-smaller g c =
+    let moves : MovesPast c.in-Some.body.items c.loop-entries.reader c.next_body.new.reader =
+    rw c.in-Some.is at c.in_ok-body.ensures.moves in
+    omega (arith, moves.gate, moves.same_length, moves.inside)
+
+pub loop-entries-preserved : goal.loop-entries-preserved
+loop-entries-preserved g c =
+    let far = c.loop-entries.invariant in
+    let next = rw c.deref.ensures.value
+    at (c.in_ok-take.ensures far.bodies far.found (c.gate-gate.ensures.place ∙ far.place)) in
+    read_next g.D.Disk _ _ _ _ _ far (λ bodies. HasEntries bodies c.take.new.self)
+    c.next_body.new.disk c.next_body.new.reader c.in-Some.body (rw c.in-Some.is at c.in_ok-body.ensures.found)
+    (rw c.in-Some.is at c.in_ok-body.ensures.moves) c.next_body.ensures.read c.next_body.ensures.cause.later next
+
+-- a closed gate is behind the bodies
+pub returns-clause-found : goal.returns-clause-found
+returns-clause-found g c =
+    let far = c.loop-entries.invariant in
+    record {
+      bodies = far.bodies;
+      read = read_whole g.D.Disk _ _ _ _ _ far c.next_body.new.disk c.next_body.new.reader c.into_log.result
+          (rw c.in_default.is at c.in_ok-body.ensures.moves) (rw c.in_default.is at c.in_ok-body.ensures.found)
+          c.next_body.ensures.read c.into_log.ensures.opens;
+      has = far.found;
+    }
+
+pub returns-clause-read : goal.returns-clause-read
+returns-clause-read g c =
+    only_read_more g.D.Disk _ _ _ c.loop-entries.invariant.read c.next_body.ensures.read
+
+pub returns-clause-cause : goal.returns-clause-cause
+returns-clause-cause g c =
+    blames_none _ _ _ (omega (arith, c.loop-entries.invariant.later, c.next_body.ensures.cause.later))

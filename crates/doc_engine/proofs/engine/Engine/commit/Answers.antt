@@ -1,54 +1,54 @@
-use Rattle.std.proofs.Common.{◌+◌, Some, ap, arith, refl, subst, sym, ◌∙◌}
+use Rattle.std.proofs.Common.{◌≤◌, ◌+◌, Some, ap, arith, refl, subst, sym, ◌∙◌}
 use Rattle.std.proofs.Math.Logic.{∥∥₁_elim, ∥∥₁_map}
 use Rattle.std.proofs.Props.{props}
 use Rattle.std.proofs.lemmas.Result.{err_from_is_err_and}
 use Rattle.disk_model.specs.Causes.{Rose}
-use Rattle.doc_engine.proofs.Appending.{breaks, err_of, fits, is_up, ok_of}
+use Rattle.doc_engine.proofs.Appending.{all_up, breaks, err_of, fits, ok_of}
 use Rattle.doc_engine.proofs.Entered.{goes_on, reply_entered}
-use Rattle.doc_engine.proofs.Entering.{IsNoFault, all_up, breaks_off, enters, refused_enters}
+use Rattle.doc_engine.proofs.Entering.{IsNoFault, breaks_off, enters, refused_enters}
 use Rattle.doc_engine.proofs.Refusing.{check_is_no_fault, room_is_no_fault}
 use Rattle.doc_engine.proofs.Same.{if_unchanged, unchanged}
 use Rattle.doc_engine.proofs.Stamps.{later_by, ops_by}
 use Rattle.doc_engine.specs.Checks.{end_with}
 use Rattle.doc_engine.specs.Created.{CreatedBy}
-use Rattle.doc_engine.specs.EngineState.{state_of}
+use Rattle.doc_engine.specs.EngineState.{down_since, read_state}
 use Rattle.doc_model.specs.declared.entry.Entry.TheVariants.{Commit}
-use Rattle.journal.specs.JournalStates.{LogsRepresent, current_of}
 use Rattle.journal_bodies.specs.Entries.{SpellsEntry}
 use Rattle.doc_meaning.specs.declared.replies.CommitReply.TheVariants.{Entered}
 use Rattle.doc_engine.proofs.engine.Engine.commit.Goals as goal
 
 -- the operations may not be entered
 pub returns-in_err-check-clause-crash : goal.returns-in_err-check-clause-crash
-returns-in_err-check-clause-crash g c h is represents =
+returns-in_err-check-clause-crash g c files h is represents =
     let laws = g.met.D.Disk g.world.𝓛 g.world.𝓜 g.world.𝓡 ((λ s x. x), (λ x. x), (λ x. x), λ x. x) in
     let engine = c.args.self.now in
     let error = err_from_is_err_and c.from_residual.result c.from_residual.ensures.1 in
-    let other = check_is_no_fault (state_of engine) c.args.ops c.in_err-check.field-0.0 c.in_err-check.ensures.refused in
-    refused_enters g.D.Disk engine.journal engine.disk h
+    let other = check_is_no_fault (read_state engine) (down_since engine) c.args.ops c.in_err-check.field-0.0
+    c.in_err-check.ensures.refused in
+    refused_enters g.D.Disk files engine.journal engine.disk h
     c.args.ops c.from_residual.result error.0 error.1 (subst IsNoFault (sym error.2) other)
     (laws.only_now engine.disk) represents
 
 -- there is no room, or no memory for the frame
 pub returns-in_err-frame-clause-crash : goal.returns-in_err-frame-clause-crash
-returns-in_err-frame-clause-crash g c h is represents =
+returns-in_err-frame-clause-crash g c files h is represents =
     let laws = g.met.D.Disk g.world.𝓛 g.world.𝓜 g.world.𝓡 ((λ s x. x), (λ x. x), (λ x. x), λ x. x) in
     let engine = c.args.self.now in
     let result = c.from_residual-in_err-frame.result in
     let error = err_from_is_err_and result c.from_residual-in_err-frame.ensures.1 in
     let other = room_is_no_fault engine.front engine.journal c.args.ops c.in_err-frame.field-0.0
     c.in_err-frame.ensures.refused in
-    refused_enters g.D.Disk engine.journal engine.disk h
+    refused_enters g.D.Disk files engine.journal engine.disk h
     c.args.ops result error.0 error.1 (subst IsNoFault (sym error.2) other) (laws.only_now engine.disk) represents
 
 -- there is no memory for what is staged
 pub returns-in_err-staged-clause-crash : goal.returns-in_err-staged-clause-crash
-returns-in_err-staged-clause-crash g c h is represents =
+returns-in_err-staged-clause-crash g c files h is represents =
     let laws = g.met.D.Disk g.world.𝓛 g.world.𝓜 g.world.𝓡 ((λ s x. x), (λ x. x), (λ x. x), λ x. x) in
     let engine = c.args.self.now in
     let result = c.from_residual-in_err-staged.result in
     let error = err_from_is_err_and result c.from_residual-in_err-staged.ensures.1 in
-    refused_enters g.D.Disk engine.journal engine.disk h
+    refused_enters g.D.Disk files engine.journal engine.disk h
     c.args.ops result error.0 error.1 (subst IsNoFault (sym error.2) tt) (laws.only_now engine.disk) represents
 
 pub invariant_of-self : goal.invariant_of-self
@@ -73,7 +73,7 @@ invariant_of-self-then-is_err g c =
     record {
       within = c.append_entry.ensures.within;
       up = ∣ (λ none. absurd (cc none)) ∣₁;
-      early = λ touched. omega (arith, c.in_ok-frame.ensures.room.early);
+      early = λ broken. omega (arith, c.in_ok-frame.ensures.room.early);
       stamps = subst (CreatedBy engine.front) (sym back) engine.stamps;
     }
 
@@ -85,11 +85,12 @@ returns-then-is_err-clause-answers g c =
     let early = c.in_ok-frame.ensures.room.early in
     let room = fits engine.front engine.journal c.args.ops c.in_ok-frame.frame c.in_ok-frame.ensures.room in
     let back = c.take_back.ensures ∙ c.in_ok-staged.ensures.before in
+    let entry = c.append_entry.ensures.entry in
     let err = err_of c.append_entry.result (sym c.is_err.ensures.value ∙ c.if-is_err.true) in
     let rises : IsProp (Rose (g.D.Disk.faults engine.disk) (g.D.Disk.faults now)) = hlevel props in
-    let rose = ∥∥₁_elim engine.up rises (λ up. (breaks g.D.Disk engine.journal c.append_entry.new.self engine.disk now c.in_ok-frame.frame
-    c.append_entry.result c.append_entry.ensures.entry err.0 err.1
-    (up may.up (current_of engine.journal) (omega (arith, engine.journal.is_journal))) room).1) in
+    let rose = ∥∥₁_elim engine.up rises (λ up. (breaks g.D.Disk c.in_ok-frame.frame engine.journal
+    c.append_entry.new.self engine.disk now c.append_entry.result entry (up may.up) err.0 err.1 room).1) in
+    let stays : IsProp (g.D.Disk.faults engine.disk ≤ g.D.Disk.faults now) = hlevel props in
     record {
       reply = λ h is. tt;
       goes_on = λ h is. record {
@@ -99,14 +100,14 @@ returns-then-is_err-clause-answers g c =
         documents = back ∙ is.documents;
       };
       would = λ h is.
-          sym (reply_entered (state_of engine).read h c.args.ops 0 is may.once may.agrees (omega arith) early)
+          sym (reply_entered (read_state engine) h c.args.ops 0 is may.once may.agrees (omega arith) early)
           ∙ ap (λ n. Entered (n + 1)) is.front;
       cause = (may.up, rose, ap Some c.faults.ensures);
-      later = c.append_entry.ensures.entry.answer.later;
+      later = ∥∥₁_elim engine.up stays (λ up. (entry.appends.answer (up may.up)).later);
     }
 
 pub returns-then-is_err-clause-crash : goal.returns-then-is_err-clause-crash
-returns-then-is_err-clause-crash g c h is represents =
+returns-then-is_err-clause-crash g c files h is represents =
     let engine = c.args.self.now in
     let new = c.append_entry.new.self in
     let now = c.append_entry.new.disk in
@@ -114,32 +115,25 @@ returns-then-is_err-clause-crash g c h is represents =
     let entry = c.append_entry.ensures.entry in
     let room = fits engine.front engine.journal c.args.ops frame c.in_ok-frame.ensures.room in
     let err = err_of c.append_entry.result (sym c.is_err.ensures.value ∙ c.if-is_err.true) in
-    let up = represents.up (current_of engine.journal) (omega (arith, engine.journal.is_journal)) in
-    let broken = breaks g.D.Disk
-    engine.journal new engine.disk now frame c.append_entry.result entry err.0 err.1 up room in
+    let broken = breaks g.D.Disk frame engine.journal new engine.disk now c.append_entry.result entry represents.up
+    err.0 err.1 room in
     let spelled = subst (λ n. SpellsEntry frame (n + 1) (Commit c.args.ops)) is.front
     c.in_ok-frame.ensures.room.spelled in
-    let before = subst (LogsRepresent g.D.Disk engine.journal engine.disk represents.kept)
-    represents.leaves represents.represents in
-    breaks_off g.D.Disk engine.journal new engine.disk now h
-    c.args.ops frame spelled c.in_ok-check.ensures.may.distinct entry.others represents err.0 c.append_entry.result err.1
-    broken.0 (entry.frames represents.kept before up)
+    breaks_off g.D.Disk files engine.journal new engine.disk now h c.args.ops frame spelled
+    c.in_ok-check.ensures.may.distinct represents c.append_entry.result entry err.0 err.1 broken.0.0
 
 -- the frame was added
 pub invariant_of-self-2 : goal.invariant_of-self-2
 invariant_of-self-2 g c =
     let engine = c.args.self.now in
     let done = c.settle.ensures ∙ c.in_ok-staged.ensures.after in
-    let entry = c.append_entry.ensures.entry in
     let ok = ok_of c.append_entry.result (sym c.is_err.ensures.value ∙ c.if-is_err.false) in
-    let up = is_up g.D.Disk engine.journal
-    c.append_entry.new.self engine.disk c.append_entry.new.disk c.in_ok-frame.frame c.append_entry.result entry ok in
     let later = later_by engine.front (engine.front + 1) engine.live (omega arith) engine.stamps in
     record {
       within = c.append_entry.ensures.within;
-      up = ∥∥₁_map engine.up (λ were none. all_up (current_of engine.journal) engine.journal c.append_entry.new.self
-          entry.others up (were none));
-      early = λ touched. omega (arith, c.in_ok-frame.ensures.room.early);
+      up = ∥∥₁_map engine.up (λ were none. all_up g.D.Disk c.in_ok-frame.frame engine.journal c.append_entry.new.self
+          engine.disk c.append_entry.new.disk c.append_entry.result c.append_entry.ensures.entry (were none) ok);
+      early = λ broken. omega (arith, c.in_ok-frame.ensures.room.early);
       stamps = subst (CreatedBy (engine.front + 1)) (sym done)
           (ops_by (engine.front + 1) c.args.ops engine.live later);
     }
@@ -151,29 +145,22 @@ returns-clause-answers g c =
     let room = c.in_ok-frame.ensures.room in
     let end = end_with engine.journal (engine.front + 1) c.args.ops in
     let done = c.settle.ensures ∙ c.in_ok-staged.ensures.after in
+    let stays : IsProp (g.D.Disk.faults engine.disk ≤ g.D.Disk.faults c.append_entry.new.disk) = hlevel props in
     record {
-      reply = λ h is. reply_entered (state_of engine).read h c.args.ops end is may.once may.agrees room.room room.early;
-      goes_on = λ h is. goes_on (state_of engine).read _ h c.args.ops is refl refl refl done;
+      reply = λ h is. reply_entered (read_state engine) h c.args.ops end is may.once may.agrees room.room room.early;
+      goes_on = λ h is. goes_on (read_state engine) _ h c.args.ops is refl refl refl done;
       would = λ h is. tt;
       cause = (may.up, may.up);
-      later = c.append_entry.ensures.entry.answer.later;
+      later = ∥∥₁_elim engine.up stays (λ up. (c.append_entry.ensures.entry.appends.answer (up may.up)).later);
     }
 
 pub returns-clause-crash : goal.returns-clause-crash
-returns-clause-crash g c h is represents =
+returns-clause-crash g c files h is represents =
     let engine = c.args.self.now in
-    let new = c.append_entry.new.self in
-    let now = c.append_entry.new.disk in
     let frame = c.in_ok-frame.frame in
-    let entry = c.append_entry.ensures.entry in
     let ok = ok_of c.append_entry.result (sym c.is_err.ensures.value ∙ c.if-is_err.false) in
-    let up = represents.up (current_of engine.journal) (omega (arith, engine.journal.is_journal)) in
-    let there = is_up g.D.Disk
-    engine.journal new engine.disk now frame c.append_entry.result entry ok in
     let spelled = subst (λ n. SpellsEntry frame (n + 1) (Commit c.args.ops)) is.front
     c.in_ok-frame.ensures.room.spelled in
-    let before = subst (LogsRepresent g.D.Disk engine.journal engine.disk represents.kept)
-    represents.leaves represents.represents in
-    enters g.D.Disk engine.journal new engine.disk now h
-    c.args.ops frame spelled c.in_ok-check.ensures.may.distinct entry.others represents (engine.front + 1)
-    c.append_entry.result ok there (entry.frames represents.kept before up)
+    enters g.D.Disk files engine.journal c.append_entry.new.self engine.disk c.append_entry.new.disk h c.args.ops
+    frame spelled c.in_ok-check.ensures.may.distinct represents c.append_entry.result c.append_entry.ensures.entry
+    (engine.front + 1) ok

@@ -1,10 +1,9 @@
-use Rattle.std.proofs.Common.{ap, sym, subst, subst₂, ◌∙◌}
+use Rattle.std.proofs.Common.{sym, subst}
 use Rattle.doc_meaning.specs.History.{settings_of}
 use Rattle.doc_engine.proofs.Created.{creates}
 use Rattle.doc_engine.proofs.Opened.{if_some, none_by}
 use Rattle.doc_engine.specs.Created.{CreatedBy}
-use Rattle.doc_engine.specs.EngineState.{EngineState, state_of}
-use Rattle.doc_engine.specs.Opening.{Creates, KeepsUntilCreated}
+use Rattle.doc_engine.specs.Opening.{KeepsUntilCreated}
 use Rattle.doc_engine.specs.declared.found.Found.{Found}
 use Rattle.doc_engine.proofs.engine.Engine.create.Goals as goal
 
@@ -14,16 +13,13 @@ holding-requires-clause-stamps g c κs within =
 
 pub returns-in-Ok-clause-answers : goal.returns-in-Ok-clause-answers
 returns-in-Ok-clause-answers g c =
-    let held = state_of c.holding.result in
     let is = c.holding.ensures in
     record {
-      up = ap (λ (e : EngineState). e.down) is.held;
+      up = is.up;
       creates = if_some (g.D.Disk.seen c.args.disk) c.in-Ok.ensures.made.made (λ image made. (
         made.0,
-        subst₂ (Creates g.D.Disk (settings_of c.args.settings) held)
-            (sym (is.journal ∙ ap (λ (f : Found). f.journal) c.new.ensures)) (sym is.disk)
-            (creates g.D.Disk c.args.settings c.make.new.disk c.in-Ok.journal c.new.result held
-            made.1 c.new.ensures is.held),
+        creates c.args.settings c.make.new.disk c.in-Ok.journal c.new.result c.new.ensures c.holding.result is.disk
+            is.journal is.read made.1,
       ));
     }
 

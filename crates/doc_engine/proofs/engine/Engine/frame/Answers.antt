@@ -15,7 +15,8 @@ returns-then-end-ge-LONGEST_LOG-clause-refused g c =
       ends_with engine.journal c.saturating_add-number.result (engine.front + 1) c.args.ops.now c.in_ok-frame.frame
           c.end_with-end.result c.end_with-end.ensures spelled,
       elim c.then-end-ge-LONGEST_LOG.branch [
-        | then-end-ge-LONGEST_LOG-via-then-end-ge-LONGEST_LOG w ↦ first_holds _ _ (le-leb _ _ w.if-end-ge-LONGEST_LOG.true)
+        | then-end-ge-LONGEST_LOG-via-then-end-ge-LONGEST_LOG w ↦
+            first_holds _ _ (le-leb _ _ w.if-end-ge-LONGEST_LOG.true)
         | then-end-ge-LONGEST_LOG-via-else-end-ge-LONGEST_LOG+then-self-ge-LAST_TIMESTAMP w ↦
             second_holds _ _ (le-leb _ _ w.if-self-ge-LAST_TIMESTAMP.true)
       ],

@@ -1,5 +1,0 @@
-use Rattle.journal_meaning.proofs.EmptyLemmas.{first_root_is_told}
-use Rattle.journal_meaning.proofs.laws.first_root_is_told.Goals as goal
-
-pub returns : goal.returns
-returns c = first_root_is_told

@@ -1,5 +1,0 @@
-use Rattle.journal_meaning.proofs.ShownLemmas.{nothing_is_shown}
-use Rattle.journal_meaning.proofs.laws.nothing_is_shown.Goals as goal
-
-pub returns : goal.returns
-returns c = nothing_is_shown

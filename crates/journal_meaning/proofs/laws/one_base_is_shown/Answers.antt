@@ -1,5 +1,0 @@
-use Rattle.journal_meaning.proofs.ShownLemmas.{one_base_is_shown}
-use Rattle.journal_meaning.proofs.laws.one_base_is_shown.Goals as goal
-
-pub returns : goal.returns
-returns c = one_base_is_shown

@@ -1,5 +1,0 @@
-use Rattle.journal_meaning.proofs.AlikeLemmas.{shown_begins}
-use Rattle.journal_meaning.proofs.laws.shown_begins.Goals as goal
-
-pub returns : goal.returns
-returns c = shown_begins

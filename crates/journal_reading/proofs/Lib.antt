@@ -1,9 +1,0 @@
-pub mod GateLemmas
-pub mod RootLemmas
-pub mod EntryLemmas
-pub mod NumberLemmas
-pub mod ApartLemmas
-pub mod WalkLemmas
-pub mod NewestLemmas
-pub mod TurnLemmas
-pub mod ReplayLemmas

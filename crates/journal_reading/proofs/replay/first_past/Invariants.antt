@@ -1,6 +1,0 @@
-use Rattle.std.proofs.Common.{◌≡◌, [], take}
-use Rattle.journal_meaning.specs.Bodies.{past}
-use Rattle.journal_reading.proofs.replay.first_past.Given as goal
-
-abbrev pub invariant-loop-entry : goal.invariant-loop-entry
-invariant-loop-entry l = past l.checkpoint (take l.entry-index l.entries) ≡ []
